@@ -1,0 +1,3 @@
+pub mod Halls
+pub mod Held
+pub mod Laws

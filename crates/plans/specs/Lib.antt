@@ -1,0 +1,5 @@
+pub mod Plan
+pub mod Tables
+pub mod Held
+pub mod Short
+pub mod Forms
