@@ -1,0 +1,5 @@
+//! What the program answers to a file.
+
+pub mod answer;
+pub mod ask;
+pub mod show;

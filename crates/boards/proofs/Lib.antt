@@ -1,0 +1,4 @@
+pub mod Holding
+pub mod Granting
+pub mod Calling
+pub mod Emptiness

@@ -1,0 +1,4 @@
+pub mod Finding
+pub mod Parting
+pub mod Freeing
+pub mod Spreading

@@ -1,0 +1,5 @@
+pub mod Faults
+pub mod Parse
+pub mod Written
+pub mod Laws
+pub mod Reading
