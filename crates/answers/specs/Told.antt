@@ -28,11 +28,12 @@ legCount l = legsBelow (exitsFrom l) (places l)
 
 abbrev pub accountOf : Plan → Account
 accountOf p = record {
-    kind = kindOf (p .floor);
-    places = places (p .floor);
-    legs = legCount (p .floor);
-    carriers = length (p .carriers);
-    entries = length (entriesOf (p .carriers)) }
+  kind = kindOf (p .floor);
+  places = places (p .floor);
+  legs = legCount (p .floor);
+  carriers = length (p .carriers);
+  entries = length (entriesOf (p .carriers));
+}
 
 abbrev pub told : Result Plan FileFault → Answer
 told (Ok p) = Read (accountOf p)

@@ -24,8 +24,17 @@ pub impl fmt::Display for Account as AccountDisplay {
     ghost shown = { λ a. Some (speltAccount a) };
 
     fn fmt<W: fmt::Write>(&self, f: &mut fmt::Formatter<W>) -> fmt::Result {
-        let Account { kind, places, legs, carriers, entries } = *self;
-        write!(f, "{kind} places {places} legs {legs} carriers {carriers} entries {entries}")
+        let Account {
+            kind,
+            places,
+            legs,
+            carriers,
+            entries,
+        } = *self;
+        write!(
+            f,
+            "{kind} places {places} legs {legs} carriers {carriers} entries {entries}"
+        )
     }
 }
 

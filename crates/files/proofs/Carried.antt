@@ -44,17 +44,9 @@ entries-of bytes mark at size (x ∷ xs) rest e f =
     let z : at + 2 * suc (length xs) ≡ at + 2 + 2 * length xs = omega arith in
     (rw (r, b .0) refl, rw z (b .1))
 
-entries-many : (bytes : List ℕ) (mark at last n : ℕ) (xs : List ℕ) → entriesAt bytes mark at last n ≡ Ok xs → length xs ≡ n
-unfolding entriesAt
-entries-many bytes mark at last zero xs h = let e : [] ≡ xs = cc in ap length (sym e)
-entries-many bytes mark at last (suc n) xs h =
-    both-ok (rangedAt bytes mark at 0 last) _ xs h (λ x a h.
-    both-ok (entriesAt bytes mark (at + 2) last n) _ xs h (λ more d h.
-    let e : x ∷ more ≡ xs = cc in
-    ap length (sym e) ∙ ap (λ k. suc k) (entries-many bytes mark (at + 2) last n more d)))
-
 record Entries (bytes : List ℕ) (at size n : ℕ) (xs : List ℕ) : Type 0 where
   fit : within size xs ≡ true
+  many : length xs ≡ n
   bytes-are : Bytes bytes → drop at bytes ≡ entriesBytes xs ++ drop (at + 2 * length xs) bytes
 
 entries-ok : (bytes : List ℕ) (mark at size n : ℕ) (xs : List ℕ) → 1 ≤ size → entriesAt bytes mark at (size - 1) n ≡ Ok xs → Entries bytes at size n xs
@@ -62,7 +54,7 @@ unfolding entriesAt entriesBytes within
 entries-ok bytes mark at size zero xs p h =
     let e : [] ≡ xs = cc in
     let z : at + 2 * 0 ≡ at = omega arith in
-    subst (λ (l : List ℕ). Entries bytes at size 0 l) e (record { fit = refl; bytes-are = λ b. rw z refl })
+    subst (λ (l : List ℕ). Entries bytes at size 0 l) e (record { fit = refl; many = refl; bytes-are = λ b. rw z refl })
 entries-ok bytes mark at size (suc n) xs p h =
     both-ok (rangedAt bytes mark at 0 (size - 1)) _ xs h (λ x a h.
     both-ok (entriesAt bytes mark (at + 2) (size - 1) n) _ xs h (λ more d h.
@@ -71,9 +63,11 @@ entries-ok bytes mark at size (suc n) xs p h =
     let i = entries-ok bytes mark (at + 2) size n more p d in
     let z : at + 2 + 2 * length more ≡ at + 2 * suc (length more) = omega arith in
     subst (λ (l : List ℕ). Entries bytes at size (suc n) l) e
-    (record
-      { fit = and-from _ _ (lt-ltb x size (omega (arith, r .high))) (i .fit)
-      ; bytes-are = λ b. number-bytes bytes mark at x b (r .number) ∙ ap (λ (w : List ℕ). two x ++ w) (rw z at (i .bytes-are b)) })))
+    (record {
+      fit = and-from _ _ (lt-ltb x size (omega (arith, r .high))) (i .fit);
+      many = ap (λ k. suc k) (i .many);
+      bytes-are = λ b. number-bytes bytes mark at x b (r .number) ∙ ap (λ (w : List ℕ). two x ++ w) (rw z at (i .bytes-are b));
+    })))
 
 -- a carrier
 abbrev routeBytes : Route → List ℕ
@@ -101,11 +95,12 @@ carrier-of bytes at size room r rest e f few =
     let w : at + (8 + 2 * length (r .path)) ≡ at + 8 + 2 * length (r .path) = omega arith in
     record { follows = rw (m .value) refl; value = rw (x, y, z, d .0) refl; after = rw w (d .1) }
 
-record CarrierRead (bytes : List ℕ) (at size room : ℕ) (r : Route) : Type 0 where
-  fit : onFloor size r ≡ true
-  bytes-are : Bytes bytes → drop (at + 2) bytes ≡ two (r .start) ++ (two (r .goal) ++ (two (length (r .path)) ++ (entriesBytes (r .path) ++ drop (at + (8 + 2 * length (r .path))) bytes)))
+pub record CarrierRead (bytes : List ℕ) (at size room : ℕ) (r : Route) : Type 0 where
+  pub fit : onFloor size r ≡ true
+  pub short : length (r .path) ≤ room
+  pub bytes-are : Bytes bytes → drop (at + 2) bytes ≡ two (r .start) ++ (two (r .goal) ++ (two (length (r .path)) ++ (entriesBytes (r .path) ++ drop (at + (8 + 2 * length (r .path))) bytes)))
 
-carrier-ok : (bytes : List ℕ) (at size room : ℕ) (r : Route) → 1 ≤ size → carrierAt bytes at size room ≡ Ok r → CarrierRead bytes at size room r
+pub carrier-ok : (bytes : List ℕ) (at size room : ℕ) (r : Route) → 1 ≤ size → carrierAt bytes at size room ≡ Ok r → CarrierRead bytes at size room r
 unfolding carrierAt
 carrier-ok bytes at size room r p h =
     both-ok (rangedAt bytes at (at + 2) 0 (size - 1)) _ r h (λ start x h.
@@ -123,26 +118,16 @@ carrier-ok bytes at size room r p h =
     let u : at + 6 + 2 ≡ at + 8 = omega arith in
     let v : at + 8 + 2 * length path ≡ at + (8 + 2 * length path) = omega arith in
     subst (λ (r : Route). CarrierRead bytes at size room r) e
-    (record
-      { fit = carrier-whole size q (record { start = omega (arith, rx .high); goal = omega (arith, ry .high); path = i .fit })
-      ; bytes-are = λ b.
+    (record {
+      fit = carrier-whole size q (record { start = omega (arith, rx .high); goal = omega (arith, ry .high); path = i .fit });
+      short = omega (arith, rz .high, i .many);
+      bytes-are = λ b.
           let nx : drop (at + 2) bytes ≡ two start ++ drop (at + 4) bytes = rw s at (number-bytes bytes at (at + 2) start b (rx .number)) in
           let ny : drop (at + 4) bytes ≡ two goal ++ drop (at + 6) bytes = rw t at (number-bytes bytes at (at + 4) goal b (ry .number)) in
-          let nz : drop (at + 6) bytes ≡ two (length path) ++ drop (at + 8) bytes = rw (entries-many bytes at (at + 8) (size - 1) count path w) (rw u at (number-bytes bytes at (at + 6) count b (rz .number))) in
+          let nz : drop (at + 6) bytes ≡ two (length path) ++ drop (at + 8) bytes = rw (i .many) (rw u at (number-bytes bytes at (at + 6) count b (rz .number))) in
           let n : drop (at + 8) bytes ≡ entriesBytes path ++ drop (at + (8 + 2 * length path)) bytes = rw v at (i .bytes-are b) in
-          nx ∙ (ap (λ (w : List ℕ). two start ++ w) ny ∙ (ap (λ (w : List ℕ). two start ++ (two goal ++ w)) nz ∙ ap (λ (w : List ℕ). two start ++ (two goal ++ (two (length path) ++ w))) n)) })))))
-
--- no path is longer than the room that is left
-pub carrier-short : (bytes : List ℕ) (at size room : ℕ) (r : Route) → carrierAt bytes at size room ≡ Ok r → length (r .path) ≤ room
-unfolding carrierAt
-carrier-short bytes at size room r h =
-    both-ok (rangedAt bytes at (at + 2) 0 (size - 1)) _ r h (λ start x h.
-    both-ok (rangedAt bytes at (at + 4) 0 (size - 1)) _ r h (λ goal y h.
-    both-ok (rangedAt bytes at (at + 6) 0 room) _ r h (λ count z h.
-    both-ok (entriesAt bytes at (at + 8) (size - 1) count) _ r h (λ path w h.
-    let q : Route = record { start = start; goal = goal; path = path } in
-    let e : q ≡ r = cc in
-    subst (λ (r : Route). length (r .path) ≤ room) e (omega (arith, ranged-ok bytes at (at + 6) 0 room count z .high, entries-many bytes at (at + 8) (size - 1) count path w))))))
+          nx ∙ (ap (λ (w : List ℕ). two start ++ w) ny ∙ (ap (λ (w : List ℕ). two start ++ (two goal ++ w)) nz ∙ ap (λ (w : List ℕ). two start ++ (two goal ++ (two (length path) ++ w))) n));
+    })))))
 
 -- the end
 end-of : (bytes : List ℕ) (at : ℕ) → drop at bytes ≡ 69 ∷ 78 ∷ [] → (followsAt bytes at ≡ Ok false) × (endAt bytes at ≡ Ok [])
@@ -183,24 +168,26 @@ end-ok bytes at size room left rs a h =
     let e : [] ≡ rs = cc in
     let l = leb-true (length bytes) (at + 2) (guard-ok _ (Trailing (at + 2)) u g) in
     subst (λ (rs : List Route). Routes bytes at size room left rs) e
-    (record
-      { fit = refl
-      ; few = omega arith
-      ; short = omega arith
-      ; bytes-are = λ b. number-bytes bytes at at 0x4e45 b (follows-ok bytes at false a) ∙ ap (λ (w : List ℕ). 69 ∷ 78 ∷ w) (drop-all (at + 2) bytes l) }))
+    (record {
+      fit = refl;
+      few = omega arith;
+      short = omega arith;
+      bytes-are = λ b. number-bytes bytes at at 0x4e45 b (follows-ok bytes at false a) ∙ ap (λ (w : List ℕ). 69 ∷ 78 ∷ w) (drop-all (at + 2) bytes l);
+    }))
 
 -- one carrier more
-next-ok : (bytes : List ℕ) (at size room left : ℕ) (r : Route) (more : List Route) → followsAt bytes at ≡ Ok true → CarrierRead bytes at size room r → length (r .path) ≤ room
+next-ok : (bytes : List ℕ) (at size room left : ℕ) (r : Route) (more : List Route) → followsAt bytes at ≡ Ok true → CarrierRead bytes at size room r
     → Routes bytes (at + (8 + 2 * length (r .path))) size (room - length (r .path)) left more → Routes bytes at size room (suc left) (r ∷ more)
 unfolding allOnFloor entriesOf routesBytes
-next-ok bytes at size room left r more a c k i = record
-  { fit = and-from _ _ (c .fit) (i .fit)
-  ; few = omega (arith, i .few)
-  ; short = omega (arith, i .short, length-append (r .path) (entriesOf more))
-  ; bytes-are = λ b.
+next-ok bytes at size room left r more a c i = record {
+  fit = and-from _ _ (c .fit) (i .fit);
+  few = omega (arith, i .few);
+  short = omega (arith, c .short, i .short, length-append (r .path) (entriesOf more));
+  bytes-are = λ b.
       number-bytes bytes at at 0x4143 b (follows-ok bytes at true a)
       ∙ (ap (λ (w : List ℕ). 67 ∷ 65 ∷ w) (c .bytes-are b)
-      ∙ (ap (λ (w : List ℕ). routeBytes r ++ w) (i .bytes-are b) ∙ sym (append-assoc (routeBytes r) (routesBytes more) (69 ∷ 78 ∷ [])))) }
+      ∙ (ap (λ (w : List ℕ). routeBytes r ++ w) (i .bytes-are b) ∙ sym (append-assoc (routeBytes r) (routesBytes more) (69 ∷ 78 ∷ []))));
+}
 
 pub routes-ok : (bytes : List ℕ) (at size room left : ℕ) (rs : List Route) → 1 ≤ size → carriersAt bytes at size room left ≡ Ok rs → Routes bytes at size room left rs
 unfolding carriersAt
@@ -220,5 +207,5 @@ routes-ok bytes at size room (suc left) rs p h = both-ok (followsAt bytes at) _ 
         both-ok (carriersAt bytes (at + (8 + 2 * length (r .path))) size (room - length (r .path)) left) _ rs h (λ more y h.
         let e : r ∷ more ≡ rs = cc in
         subst (λ (rs : List Route). Routes bytes at size room (suc left) rs) e
-        (next-ok bytes at size room left r more a (carrier-ok bytes at size room r p x) (carrier-short bytes at size room r x) (ih r more y))))
+        (next-ok bytes at size room left r more a (carrier-ok bytes at size room r p x) (ih r more y))))
     go ih false a h = end-ok bytes at size room (suc left) rs a h

@@ -2,7 +2,7 @@
 use mathlib.Core.Path.{_≡_, refl, sym, ap, subst, _∙_}
 use mathlib.Core.Bool.{true}
 use mathlib.Core.List.{List, _++_}
-use Prim.Native.Nat.{ℕ, _+_, _-_, _%_, _^_, _<_, _≤_}
+use Prim.Native.Nat.{ℕ, _+_, _-_, _%_, _^_, _≤_}
 use native.Mathlib.Omega.{arith}
 use lib.Dec.{ltb, leb}
 use lib.ListN.{length, getD, take, drop}
@@ -15,7 +15,7 @@ use Rattle.files.specs.Parse.{guard, cellsAt}
 use Rattle.files.proofs.Numbered.{both-ok, guard-ok}
 
 -- whether the spare bits are free is seen on the last byte
-spare-same : (n : ℕ) (xs ys : List ℕ) → getD xs (bytesFor n - 1) 0 ≡ getD ys (bytesFor n - 1) 0 → spareFree n xs ≡ spareFree n ys
+pub spare-same : (n : ℕ) (xs ys : List ℕ) → getD xs (bytesFor n - 1) 0 ≡ getD ys (bytesFor n - 1) 0 → spareFree n xs ≡ spareFree n ys
 spare-same n xs ys e = ap (λ b. ltb b (2 ^ ((n - 1) % 8 + 1))) e
 
 pub cells-of : (bytes : List ℕ) (at n : ℕ) (blocked rest : List ℕ) → drop at bytes ≡ blocked ++ rest → 1 ≤ n → length blocked ≡ bytesFor n → spareFree n blocked ≡ true → (cellsAt bytes at n ≡ Ok blocked) × (drop (at + length blocked) bytes ≡ rest)
@@ -25,7 +25,7 @@ cells-of bytes at n blocked rest e p k s =
     let m : length bytes - at ≡ length blocked + length rest = sym (length-drop at bytes) ∙ (ap length e ∙ length-append blocked rest) in
     let l : leb (at + bytesFor n) (length bytes) ≡ true = le-leb _ _ (omega arith) in
     let g : getD (drop at bytes) (bytesFor n - 1) 0 ≡ getD blocked (bytesFor n - 1) 0 =
-        ap (λ (w : List ℕ). getD w (bytesFor n - 1) 0) e ∙ getD-append-left blocked rest 0 (bytesFor n - 1) (omega arith) in
+    ap (λ (w : List ℕ). getD w (bytesFor n - 1) 0) e ∙ getD-append-left blocked rest 0 (bytesFor n - 1) (omega arith) in
     let c : spareFree n (drop at bytes) ≡ true = spare-same n (drop at bytes) blocked g ∙ s in
     let t : take (bytesFor n) (drop at bytes) ≡ blocked = ap (take (bytesFor n)) e ∙ take-at blocked rest (bytesFor n) k in
     (rw (l, c, t) refl, sym (drop-drop (length blocked) at bytes) ∙ (ap (drop (length blocked)) e ∙ drop-at blocked rest (length blocked) refl))
@@ -48,7 +48,8 @@ cells-ok bytes at n blocked p h =
     let m = length-take-le (bytesFor n) (drop at bytes) k in
     let g = getD-take (bytesFor n) (drop at bytes) (bytesFor n - 1) 0 (omega arith) in
     subst (λ (w : List ℕ). Cells bytes at n w) e
-    (record
-      { bytes-are = sym (take-append-drop (bytesFor n) (drop at bytes)) ∙ ap (λ (w : List ℕ). take (bytesFor n) (drop at bytes) ++ w) (drop-drop (bytesFor n) at bytes ∙ ap (λ k. drop (at + k) bytes) (sym m))
-      ; long = m
-      ; spare = spare-same n (take (bytesFor n) (drop at bytes)) (drop at bytes) g ∙ s })))
+    (record {
+      bytes-are = sym (take-append-drop (bytesFor n) (drop at bytes)) ∙ ap (λ (w : List ℕ). take (bytesFor n) (drop at bytes) ++ w) (drop-drop (bytesFor n) at bytes ∙ ap (λ k. drop (at + k) bytes) (sym m));
+      long = m;
+      spare = spare-same n (take (bytesFor n) (drop at bytes)) (drop at bytes) g ∙ s;
+    })))

@@ -1,30 +1,31 @@
 -- The front of a file decides what it means.
 use mathlib.Core.Path.{_≡_, refl, sym, ap, _∙_}
-use mathlib.Core.Bool.{Bool, true, false, cond, _&&_}
+use mathlib.Core.Bool.{true, false, cond}
 use mathlib.Core.List.{List, _∷_}
 use mathlib.Core.Logic.{inl, inr}
-use Prim.Native.Nat.{ℕ, zero, suc, _+_, _-_, _*_, _%_, _^_, _<_, _≤_}
+use Prim.Native.Nat.{ℕ, zero, suc, _+_, _-_, _*_, _≤_}
 use native.Mathlib.Nat.{mul-pos}
 use native.Mathlib.Omega.{arith}
-use lib.Dec.{eqb, leb, ltb}
+use lib.Dec.{leb}
 use lib.ListN.{length, getD, take, drop}
-use Rattle.std.proofs.shelf.Lists.{length-take-le, getD-take, take-all, take-take, drop-take, getD-drop}
-use Rattle.std.proofs.shelf.Tests.{and-parts, cases-lt, le-leb, lt-leb, leb-true, eqb-true}
+use Rattle.std.proofs.shelf.Lists.{length-take-le, getD-take, take-all, take-take, drop-take}
+use Rattle.std.proofs.shelf.Tests.{cases-lt, le-leb, lt-leb, leb-true}
 use Rattle.std.specs.declared.option.Option.{Option}
 use Rattle.std.specs.declared.option.Option.the-variants.{Some, None}
 use Rattle.std.specs.declared.result.Result.{Result}
 use Rattle.std.specs.declared.result.Result.the-variants.{Ok, Err}
 use Rattle.rail_floor.specs.declared.legs.Leg.{Leg}
-use Rattle.rail_floor.specs.Rails.{inOrder, fitsLegs}
-use Rattle.hall_floor.specs.Halls.{Hall, cells, bytesFor, spareFree}
+use Rattle.rail_floor.proofs.Ordered.{rail-fit}
+use Rattle.hall_floor.specs.Halls.{bytesFor, spareFree}
 use Rattle.store_floor.specs.Layout.{Layout, rails, cellular, places, fitsLayout}
-use Rattle.plans.specs.Plan.{Route, Plan}
+use Rattle.plans.specs.Plan.{Route}
 use Rattle.files.specs.declared.faults.FileFault.{FileFault}
-use Rattle.files.specs.declared.faults.FileFault.the-variants.{Ends, WrongMark, OutOfRange, OutOfOrder, Trailing}
+use Rattle.files.specs.declared.faults.FileFault.the-variants.{OutOfRange}
 use Rattle.files.specs.Parse.{_>>=_, guard, numberAt, rangedAt, legAt, legsAt, railAt, cellsAt, hallAt, floorAt, recordSize, entriesAt, carrierAt, followsAt, endAt, carriersAt, parse}
 use Rattle.files.specs.Laws.{Front-decides}
 use Rattle.files.proofs.Numbered.{guard-ok, ranged-ok}
-use Rattle.files.proofs.Carried.{carrier-short}
+use Rattle.files.proofs.Celled.{spare-same}
+use Rattle.files.proofs.Carried.{carrier-ok}
 use Rattle.files.proofs.Whole.{floor-ok, hall-parts}
 
 -- reading on is the same where it is the same for all that may have been read
@@ -67,7 +68,7 @@ module _ (bytes : List ℕ) (n : ℕ) (h : n ≤ length bytes) where
   rail-front k =
       rw (ranged-front 0 2 1 1024 (omega arith), ranged-front 0 4 0 4096 (omega arith))
       (same-on (rangedAt bytes 0 2 1 1024) _ _ (λ size e. same-on (rangedAt bytes 0 4 0 4096) _ _ (λ count f.
-       ap (λ (r : Result (List Leg) FileFault). r >>= λ legs. Ok (rails size legs)) (legs-front 0 6 size None count (omega (arith, ranged-ok bytes 0 4 0 4096 count f .high))))))
+      ap (λ (r : Result (List Leg) FileFault). r >>= λ legs. Ok (rails size legs)) (legs-front 0 6 size None count (omega (arith, ranged-ok bytes 0 4 0 4096 count f .high))))))
 
   cells-front : (at m : ℕ) → 1 ≤ m → at + bytesFor m ≤ n → cellsAt (take n bytes) at m ≡ cellsAt bytes at m
   unfolding cellsAt
@@ -77,8 +78,7 @@ module _ (bytes : List ℕ) (n : ℕ) (h : n ≤ length bytes) where
       let w : at + (n - at) ≡ n = omega arith in
       let d : drop at (take n bytes) ≡ take (n - at) (drop at bytes) = ap (λ i. drop at (take i bytes)) (sym w) ∙ drop-take at (n - at) bytes in
       let s : spareFree m (drop at (take n bytes)) ≡ spareFree m (drop at bytes) =
-          ap (λ xs. ltb (getD xs (bytesFor m - 1) 0) (2 ^ ((m - 1) % 8 + 1))) d
-          ∙ ap (λ x. ltb x (2 ^ ((m - 1) % 8 + 1))) (getD-take (n - at) (drop at bytes) (bytesFor m - 1) 0 (omega arith)) in
+      spare-same m (drop at (take n bytes)) (drop at bytes) (ap (λ xs. getD xs (bytesFor m - 1) 0) d ∙ getD-take (n - at) (drop at bytes) (bytesFor m - 1) 0 (omega arith)) in
       let t : take (bytesFor m) (drop at (take n bytes)) ≡ take (bytesFor m) (drop at bytes) = ap (take (bytesFor m)) d ∙ take-take (bytesFor m) (n - at) (drop at bytes) (omega arith) in
       rw (a, b, s, t) refl
 
@@ -87,9 +87,9 @@ module _ (bytes : List ℕ) (n : ℕ) (h : n ≤ length bytes) where
   hall-front k =
       rw (ranged-front 0 2 1 1024 (omega arith), ranged-front 0 4 1 1024 (omega arith), ranged-front 0 6 1 65535 (omega arith), ranged-front 0 8 1 65535 (omega arith))
       (same-on (rangedAt bytes 0 2 1 1024) _ _ (λ width a. same-on (rangedAt bytes 0 4 1 1024) _ _ (λ height b.
-       same-on (guard (leb (width * height) 1024) (OutOfRange 4)) _ _ (λ u c. same-on (rangedAt bytes 0 6 1 65535) _ _ (λ across d. same-on (rangedAt bytes 0 8 1 65535) _ _ (λ down e.
-       ap (λ (r : Result (List ℕ) FileFault). r >>= λ blocked. Ok (cellular (record { width = width; height = height; across = across; down = down; blocked = blocked })))
-          (cells-front 10 (width * height) (mul-pos (ranged-ok bytes 0 2 1 1024 width a .low) (ranged-ok bytes 0 4 1 1024 height b .low)) (omega (arith, leb-true _ _ (guard-ok _ (OutOfRange 4) u c))))))))))
+      same-on (guard (leb (width * height) 1024) (OutOfRange 4)) _ _ (λ u c. same-on (rangedAt bytes 0 6 1 65535) _ _ (λ across d. same-on (rangedAt bytes 0 8 1 65535) _ _ (λ down e.
+      ap (λ (r : Result (List ℕ) FileFault). r >>= λ blocked. Ok (cellular (record { width = width; height = height; across = across; down = down; blocked = blocked })))
+      (cells-front 10 (width * height) (mul-pos (ranged-ok bytes 0 2 1 1024 width a .low) (ranged-ok bytes 0 4 1 1024 height b .low)) (omega (arith, leb-true _ _ (guard-ok _ (OutOfRange 4) u c))))))))))
 
   floor-front : 24582 ≤ n → floorAt (take n bytes) ≡ floorAt bytes
   unfolding floorAt
@@ -106,8 +106,8 @@ module _ (bytes : List ℕ) (n : ℕ) (h : n ≤ length bytes) where
   carrier-front mark size room k =
       rw (ranged-front mark (mark + 2) 0 (size - 1) (omega arith), ranged-front mark (mark + 4) 0 (size - 1) (omega arith), ranged-front mark (mark + 6) 0 room (omega arith))
       (same-on (rangedAt bytes mark (mark + 2) 0 (size - 1)) _ _ (λ start a. same-on (rangedAt bytes mark (mark + 4) 0 (size - 1)) _ _ (λ goal b. same-on (rangedAt bytes mark (mark + 6) 0 room) _ _ (λ count c.
-       ap (λ (r : Result (List ℕ) FileFault). r >>= λ path. Ok (record { start = start; goal = goal; path = path }))
-          (entries-front mark (mark + 8) (size - 1) count (omega (arith, ranged-ok bytes mark (mark + 6) 0 room count c .high)))))))
+      ap (λ (r : Result (List ℕ) FileFault). r >>= λ path. Ok (record { start = start; goal = goal; path = path }))
+      (entries-front mark (mark + 8) (size - 1) count (omega (arith, ranged-ok bytes mark (mark + 6) 0 room count c .high)))))))
 
   follows-front : (at : ℕ) → at + 2 ≤ n → followsAt (take n bytes) at ≡ followsAt bytes at
   unfolding followsAt
@@ -119,23 +119,19 @@ module _ (bytes : List ℕ) (n : ℕ) (h : n ≤ length bytes) where
       let b : leb (length bytes) (at + 2) ≡ false = lt-leb _ _ (omega arith) in
       rw (a, b) refl
 
-  carriers-front : (at size room left : ℕ) → at + (8 * left + 2 * room) + 3 ≤ n → carriersAt (take n bytes) at size room left ≡ carriersAt bytes at size room left
+  carriers-front : (at size room left : ℕ) → 1 ≤ size → at + (8 * left + 2 * room) + 3 ≤ n → carriersAt (take n bytes) at size room left ≡ carriersAt bytes at size room left
   unfolding carriersAt
-  carriers-front at size room zero k = rw (follows-front at (omega arith), end-front at (omega arith)) refl
-  carriers-front at size room (suc left) k =
+  carriers-front at size room zero p k = rw (follows-front at (omega arith), end-front at (omega arith)) refl
+  carriers-front at size room (suc left) p k =
       rw (follows-front at (omega arith), end-front at (omega arith), carrier-front at size room (omega arith))
       (ap (λ (r : Result (List Route) FileFault). followsAt bytes at >>= λ follows. cond follows r (endAt bytes at))
       (same-on (carrierAt bytes at size room) _ _ (λ r e.
-       let s = carrier-short bytes at size room r e in
-       ap (λ (q : Result (List Route) FileFault). q >>= λ more. Ok (r ∷ more)) (carriers-front (at + (8 + 2 * length (r .path))) size (room - length (r .path)) left (omega arith)))))
+      let s = carrier-ok bytes at size room r p e .short in
+      ap (λ (q : Result (List Route) FileFault). q >>= λ more. Ok (r ∷ more)) (carriers-front (at + (8 + 2 * length (r .path))) size (room - length (r .path)) left p (omega arith)))))
 
 -- a floor's record has at most 24,582 bytes
 record-short : (f : Layout) → fitsLayout f ≡ true → recordSize f ≤ 24582
-record-short (rails size legs) f =
-    let a = and-parts (leb 1 size) _ f in
-    let b = and-parts (leb size 1024) _ (a .1) in
-    let c = and-parts (leb (length legs) 4096) (fitsLegs size None legs) (b .1) in
-    omega (arith, leb-true _ _ (c .0))
+record-short (rails size legs) f = omega (arith, rail-fit size legs f .few)
 record-short (cellular h) f = let p = hall-parts h f in omega (arith, p .long, leb-true _ _ (p .few))
 
 longer : (bytes : List ℕ) (n : ℕ) → 28937 ≤ n → n ≤ length bytes → parse (take n bytes) ≡ parse bytes
@@ -143,8 +139,9 @@ unfolding parse
 longer bytes n k h =
     rw (floor-front bytes n h (omega arith))
     (same-on (floorAt bytes) _ _ (λ f e.
-     let s = record-short f (floor-ok bytes f e .fit) in
-     ap (λ (r : Result (List Route) FileFault). r >>= λ carriers. Ok (record { floor = f; carriers = carriers })) (carriers-front bytes n h (recordSize f) (places f) 2048 32 (omega arith))))
+    let i = floor-ok bytes f e in
+    let s = record-short f (i .fit) in
+    ap (λ (r : Result (List Route) FileFault). r >>= λ carriers. Ok (record { floor = f; carriers = carriers })) (carriers-front bytes n h (recordSize f) (places f) 2048 32 (i .some) (omega arith))))
 
 pub front-decides : Front-decides
 front-decides bytes n k =

@@ -115,7 +115,8 @@ legs-ok bytes mark at size before (suc n) ls p h =
     let i = legs-ok bytes mark (at + 6) size (Some l) n more p d in
     let z : at + 6 + 6 * length more ≡ at + 6 * suc (length more) = omega arith in
     subst (λ (ls : List Leg). Legs bytes at size before (suc n) ls) e
-    (record
-      { fit = and-from _ _ (read-fits bytes mark at size before l p r) (i .fit)
-      ; many = ap (λ k. suc k) (i .many)
-      ; bytes-are = λ b. leg-bytes bytes mark at size before l b r ∙ ap (λ (w : List ℕ). legBytes l ++ w) (rw z at (i .bytes-are b)) })))
+    (record {
+      fit = and-from _ _ (read-fits bytes mark at size before l p r) (i .fit);
+      many = ap (λ k. suc k) (i .many);
+      bytes-are = λ b. leg-bytes bytes mark at size before l b r ∙ ap (λ (w : List ℕ). legBytes l ++ w) (rw z at (i .bytes-are b));
+    })))

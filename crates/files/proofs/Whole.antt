@@ -1,6 +1,6 @@
 -- Floors and whole files: what is read is what was written, and back.
-use mathlib.Core.Path.{_≡_, refl, sym, ap, subst, _∙_}
-use mathlib.Core.Bool.{Bool, true, cond, _&&_}
+use mathlib.Core.Path.{_≡_, refl, ap, subst, _∙_}
+use mathlib.Core.Bool.{true, cond}
 use mathlib.Core.List.{List, [], _∷_, _++_}
 use mathlib.Core.Logic.{_⊎_, inl, inr}
 use Prim.Native.Nat.{ℕ, _+_, _*_, _≤_}
@@ -9,11 +9,11 @@ use native.Mathlib.Omega.{arith}
 use lib.Dec.{leb, eqb}
 use lib.ListN.{length, drop}
 use Rattle.std.proofs.shelf.Tests.{and-parts, and-from, cases-eq, eq-eqb, ne-eqb, leb-true, le-leb, eqb-true}
-use Rattle.std.proofs.shelf.Ways.{tells}
 use Rattle.std.specs.declared.option.Option.the-variants.{None}
 use Rattle.std.specs.declared.result.Result.the-variants.{Ok, Err}
 use Rattle.rail_floor.specs.declared.legs.Leg.{Leg}
-use Rattle.rail_floor.specs.Rails.{fitsLegs, fitsRail}
+use Rattle.rail_floor.specs.Rails.{fitsRail}
+use Rattle.rail_floor.proofs.Ordered.{rail-fit}
 use Rattle.hall_floor.specs.Halls.{Hall, cells, bytesFor, spareFree, fitsHall}
 use Rattle.store_floor.specs.Layout.{Layout, rails, cellular, places, fitsLayout}
 use Rattle.plans.specs.Plan.{Route, Plan, entriesOf, allOnFloor, fitsCarriers, fits}
@@ -21,10 +21,10 @@ use Rattle.files.specs.declared.faults.FileFault.the-variants.{OutOfRange, Wro
 use Rattle.files.specs.Parse.{guard, numberAt, rangedAt, legsAt, railAt, cellsAt, hallAt, floorAt, recordSize, carriersAt, parse}
 use Rattle.files.specs.Written.{two, legsBytes, floorBytes, routesBytes, written}
 use Rattle.files.specs.Laws.{Bytes, Files-are-plans}
-use Rattle.files.proofs.Numbered.{both-ok, guard-ok, Ranged, ranged-ok, ranged-of, number-bytes, number-of}
+use Rattle.files.proofs.Numbered.{both-ok, guard-ok, ranged-ok, ranged-of, number-bytes, number-of}
 use Rattle.files.proofs.Legged.{legs-of, legs-ok}
 use Rattle.files.proofs.Celled.{cells-of, cells-ok}
-use Rattle.files.proofs.Carried.{Routes, routes-of, routes-ok}
+use Rattle.files.proofs.Carried.{routes-of, routes-ok}
 
 -- a floor that was read behind its mark
 pub record Marked (mark : ℕ) (bytes : List ℕ) (f : Layout) : Type 0 where
@@ -36,15 +36,13 @@ pub record Marked (mark : ℕ) (bytes : List ℕ) (f : Layout) : Type 0 where
 rail-of : (bytes : List ℕ) (size : ℕ) (legs : List Leg) (rest : List ℕ) → bytes ≡ floorBytes (rails size legs) ++ rest → fitsRail size legs ≡ true → (floorAt bytes ≡ Ok (rails size legs)) × (drop (6 + 6 * length legs) bytes ≡ rest)
 unfolding floorAt railAt
 rail-of bytes size legs rest e f =
-    let f1 = and-parts (leb 1 size) _ f in
-    let f2 = and-parts (leb size 1024) _ (f1 .1) in
-    let f3 = and-parts (leb (length legs) 4096) (fitsLegs size None legs) (f2 .1) in
+    let g = rail-fit size legs f in
     let m = number-of bytes 0 0 0x4652 (two size ++ (two (length legs) ++ (legsBytes legs ++ rest))) e in
     let a = number-of bytes 0 2 size (two (length legs) ++ (legsBytes legs ++ rest)) (m .after) in
     let b = number-of bytes 0 4 (length legs) (legsBytes legs ++ rest) (a .after) in
-    let d = legs-of bytes 0 6 size None legs rest (b .after) (f3 .1) in
-    let x = ranged-of bytes 0 2 1 1024 size (a .value) (leb-true _ _ (f1 .0)) (leb-true _ _ (f2 .0)) in
-    let y = ranged-of bytes 0 4 0 4096 (length legs) (b .value) (omega arith) (leb-true _ _ (f3 .0)) in
+    let d = legs-of bytes 0 6 size None legs rest (b .after) (g .order) in
+    let x = ranged-of bytes 0 2 1 1024 size (a .value) (g .some) (g .most) in
+    let y = ranged-of bytes 0 4 0 4096 (length legs) (b .value) (omega arith) (g .few) in
     (rw (m .value, x, y, d .0) refl, d .1)
 
 pub rail-ok : (bytes : List ℕ) (f : Layout) → railAt bytes ≡ Ok f → Marked 0x4652 bytes f
@@ -58,15 +56,16 @@ rail-ok bytes f h =
     let ry = ranged-ok bytes 0 4 0 4096 count y in
     let i = legs-ok bytes 0 6 size None count legs (rx .low) z in
     subst (λ (f : Layout). Marked 0x4652 bytes f) e
-    (record
-      { fit = and-from _ _ (le-leb _ _ (rx .low)) (and-from _ _ (le-leb _ _ (rx .high)) (and-from _ _ (le-leb (length legs) 4096 (omega (arith, ry .high, i .many))) (i .fit)))
-      ; some = rx .low
-      ; bytes-are = λ m b.
+    (record {
+      fit = and-from _ _ (le-leb _ _ (rx .low)) (and-from _ _ (le-leb _ _ (rx .high)) (and-from _ _ (le-leb (length legs) 4096 (omega (arith, ry .high, i .many))) (i .fit)));
+      some = rx .low;
+      bytes-are = λ m b.
           let ny : drop 4 bytes ≡ two (length legs) ++ drop 6 bytes = rw (i .many) (number-bytes bytes 0 4 count b (ry .number)) in
           number-bytes bytes 0 0 0x4652 b m
           ∙ (ap (λ (w : List ℕ). 82 ∷ 70 ∷ w) (number-bytes bytes 0 2 size b (rx .number))
           ∙ (ap (λ (w : List ℕ). 82 ∷ 70 ∷ (two size ++ w)) ny
-          ∙ ap (λ (w : List ℕ). 82 ∷ 70 ∷ (two size ++ (two (length legs) ++ w))) (i .bytes-are b))) }))))
+          ∙ ap (λ (w : List ℕ). 82 ∷ 70 ∷ (two size ++ (two (length legs) ++ w))) (i .bytes-are b)));
+    }))))
 
 -- a hall floor
 pub record HallFits (h : Hall) : Type 0 where
@@ -94,10 +93,19 @@ hall-parts h f =
     let j = and-parts (leb 1 (h .down)) _ (i .1) in
     let k = and-parts (leb (h .down) 65535) _ (j .1) in
     let l = and-parts (eqb (length (h .blocked)) (bytesFor (cells h))) _ (k .1) in
-    record
-      { width-least = leb-true _ _ (a .0); width-most = leb-true _ _ (b .0); height-least = leb-true _ _ (c .0); height-most = leb-true _ _ (d .0); few = e .0
-      ; across-least = leb-true _ _ (g .0); across-most = leb-true _ _ (i .0); down-least = leb-true _ _ (j .0); down-most = leb-true _ _ (k .0)
-      ; long = eqb-true _ _ (l .0); spare = l .1 }
+    record {
+      width-least = leb-true _ _ (a .0);
+      width-most = leb-true _ _ (b .0);
+      height-least = leb-true _ _ (c .0);
+      height-most = leb-true _ _ (d .0);
+      few = e .0;
+      across-least = leb-true _ _ (g .0);
+      across-most = leb-true _ _ (i .0);
+      down-least = leb-true _ _ (j .0);
+      down-most = leb-true _ _ (k .0);
+      long = eqb-true _ _ (l .0);
+      spare = l .1;
+    }
 
 hall-whole : (h : Hall) → HallFits h → fitsHall h ≡ true
 hall-whole h f =
@@ -139,18 +147,29 @@ hall-ok bytes f k =
     let p : 1 ≤ w * h = mul-pos (nw .low) (nh .low) in
     let c = cells-ok bytes 10 (w * h) blocked p xc in
     subst (λ (f : Layout). Marked 0x4648 bytes f) e
-    (record
-      { fit = hall-whole hall (record
-          { width-least = nw .low; width-most = nw .high; height-least = nh .low; height-most = nh .high; few = guard-ok _ (OutOfRange 4) u xu
-          ; across-least = na .low; across-most = na .high; down-least = nd .low; down-most = nd .high; long = c .long; spare = c .spare })
-      ; some = p
-      ; bytes-are = λ m b.
+    (record {
+      fit = hall-whole hall (record {
+        width-least = nw .low;
+        width-most = nw .high;
+        height-least = nh .low;
+        height-most = nh .high;
+        few = guard-ok _ (OutOfRange 4) u xu;
+        across-least = na .low;
+        across-most = na .high;
+        down-least = nd .low;
+        down-most = nd .high;
+        long = c .long;
+        spare = c .spare;
+      });
+      some = p;
+      bytes-are = λ m b.
           number-bytes bytes 0 0 0x4648 b m
           ∙ (ap (λ (v : List ℕ). 72 ∷ 70 ∷ v) (number-bytes bytes 0 2 w b (nw .number))
           ∙ (ap (λ (v : List ℕ). 72 ∷ 70 ∷ (two w ++ v)) (number-bytes bytes 0 4 h b (nh .number))
           ∙ (ap (λ (v : List ℕ). 72 ∷ 70 ∷ (two w ++ (two h ++ v))) (number-bytes bytes 0 6 a b (na .number))
           ∙ (ap (λ (v : List ℕ). 72 ∷ 70 ∷ (two w ++ (two h ++ (two a ++ v)))) (number-bytes bytes 0 8 d b (nd .number))
-          ∙ ap (λ (v : List ℕ). 72 ∷ 70 ∷ (two w ++ (two h ++ (two a ++ (two d ++ v))))) (c .bytes-are))))) })))))))
+          ∙ ap (λ (v : List ℕ). 72 ∷ 70 ∷ (two w ++ (two h ++ (two a ++ (two d ++ v))))) (c .bytes-are)))));
+    })))))))
 
 -- either floor
 floor-of : (bytes : List ℕ) (f : Layout) (rest : List ℕ) → bytes ≡ floorBytes f ++ rest → fitsLayout f ≡ true → (floorAt bytes ≡ Ok f) × (drop (recordSize f) bytes ≡ rest)
@@ -194,9 +213,10 @@ file-ok bytes p h =
     let i = floor-ok bytes f x in
     let j = routes-ok bytes (recordSize f) (places f) 2048 32 rs (i .some) y in
     subst (λ (p : Plan). File bytes p) e
-    (record
-      { fit = and-from _ _ (i .fit) (carriers-whole (places f) rs (j .few) (j .short) (j .fit))
-      ; bytes-are = λ b. i .bytes-are b ∙ ap (λ (w : List ℕ). floorBytes f ++ w) (j .bytes-are b) })))
+    (record {
+      fit = and-from _ _ (i .fit) (carriers-whole (places f) rs (j .few) (j .short) (j .fit));
+      bytes-are = λ b. i .bytes-are b ∙ ap (λ (w : List ℕ). floorBytes f ++ w) (j .bytes-are b);
+    })))
 
 file-of : (bytes : List ℕ) (p : Plan) → fits p ≡ true → bytes ≡ written p → parse bytes ≡ Ok p
 unfolding parse written

@@ -11,7 +11,7 @@ use Rattle.std.specs.declared.result.Result.{Result}
 use Rattle.std.specs.declared.result.Result.the-variants.{Ok, Err}
 use Rattle.rail_floor.specs.declared.legs.Leg.{Leg}
 use Rattle.rail_floor.specs.Rails.{inOrder}
-use Rattle.hall_floor.specs.Halls.{Hall, bytesFor, spareFree}
+use Rattle.hall_floor.specs.Halls.{bytesFor, spareFree}
 use Rattle.store_floor.specs.Layout.{Layout, rails, cellular, places}
 use Rattle.plans.specs.Plan.{Route, Plan}
 use Rattle.files.specs.declared.faults.FileFault.{FileFault}
@@ -130,10 +130,10 @@ carriersAt bytes at size room zero =
 carriersAt bytes at size room (suc left) =
     followsAt bytes at >>= λ follows.
     cond follows
-        (carrierAt bytes at size room >>= λ carrier.
-         carriersAt bytes (at + (8 + 2 * length (carrier .path))) size (room - length (carrier .path)) left >>= λ more.
-         Ok (carrier ∷ more))
-        (endAt bytes at)
+    (carrierAt bytes at size room >>= λ carrier.
+    carriersAt bytes (at + (8 + 2 * length (carrier .path))) size (room - length (carrier .path)) left >>= λ more.
+    Ok (carrier ∷ more))
+    (endAt bytes at)
 
 -- a whole file
 unfoldable pub parse : List ℕ → Result Plan FileFault

@@ -1,9 +1,8 @@
 -- The file of a plan.
 use mathlib.Core.List.{List, [], _∷_, _++_}
-use Prim.Native.Nat.{ℕ, _/_, _%_, _<_}
-use lib.ListN.{length, getD}
+use Prim.Native.Nat.{ℕ, _/_, _%_}
+use lib.ListN.{length}
 use Rattle.rail_floor.specs.declared.legs.Leg.{Leg}
-use Rattle.hall_floor.specs.Halls.{Hall}
 use Rattle.store_floor.specs.Layout.{Layout, rails, cellular}
 use Rattle.plans.specs.Plan.{Route, Plan}
 

@@ -24,7 +24,14 @@ const CARRIER: u16 = 0x4143;
 const END: u16 = 0x4e45;
 
 /// So many entries from `start` on, none above `last`.
-fn read_entries(heap: Global, bytes: &[u8], mark: usize, start: usize, last: u16, count: u16) -> Result<Vec<u16>, ReadFault>
+fn read_entries(
+    heap: Global,
+    bytes: &[u8],
+    mark: usize,
+    start: usize,
+    last: u16,
+    count: u16,
+) -> Result<Vec<u16>, ReadFault>
     requires { ⌜ start ≤ length (now bytes) ⌝ }
     ensures value { λ r. ⌜ Agrees vec-items r (entriesAt (now (bytes .entry)) mark start last count) ⌝ }
     ensures inside { λ r. ⌜ made r (λ v. (start + 2 * vec-len v ≤ length (now (bytes .entry))) × (vec-len v ≡ count)) ⌝ }
@@ -40,7 +47,13 @@ fn read_entries(heap: Global, bytes: &[u8], mark: usize, start: usize, last: u16
 }
 
 /// The carrier whose mark stands at `mark`, with at most `room` entries.
-fn read_carrier(heap: Global, bytes: &[u8], mark: usize, size: u16, room: u16) -> Result<Carrier, ReadFault>
+fn read_carrier(
+    heap: Global,
+    bytes: &[u8],
+    mark: usize,
+    size: u16,
+    room: u16,
+) -> Result<Carrier, ReadFault>
     requires { ⌜ mark + 2 ≤ length (now bytes) ⌝ }
     ensures value { λ r. ⌜ Agrees routeOf r (carrierAt (now (bytes .entry)) mark size room) ⌝ }
     ensures inside { λ r. ⌜ made r (λ c. (mark + 8 + 2 * vec-len (c .path) ≤ length (now (bytes .entry))) × (vec-len (c .path) ≤ room)) ⌝ }
@@ -70,7 +83,12 @@ fn carrier_follows(bytes: &[u8], at: usize) -> Result<bool, FileFault>
 }
 
 /// The carriers from `start` on, and the end.
-pub fn read_carriers(heap: Global, bytes: &[u8], start: usize, size: u16) -> Result<Vec<Carrier>, ReadFault>
+pub(crate) fn read_carriers(
+    heap: Global,
+    bytes: &[u8],
+    start: usize,
+    size: u16,
+) -> Result<Vec<Carrier>, ReadFault>
     requires { ⌜ start ≤ length (now bytes) ⌝ }
     ensures { λ r. ⌜ Agrees carriersIn r (carriersAt (now (bytes .entry)) start size 2048 32) ⌝ }
 {

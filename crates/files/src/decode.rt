@@ -53,7 +53,7 @@ fn record_size(floor: &StoreFloor) -> usize
 }
 
 /// The floor and the carriers of a file.
-pub fn decode(heap: Global, bytes: &[u8]) -> Result<Draft, ReadFault>
+pub(crate) fn decode(heap: Global, bytes: &[u8]) -> Result<Draft, ReadFault>
     ensures { λ r. ⌜ Agrees draftOf r (parse (now (bytes .entry))) ⌝ }
 {
     let floor = read_floor(heap, bytes)?;

@@ -1,6 +1,5 @@
 //! The record of a hall floor.
 
-ghost use mathlib.Core.Path.{_≡_};
 ghost use Prim.Native.Nat.{_+_, _≤_};
 ghost use lib.ListN.{length};
 ghost use Rattle.std.specs.Of.Vec.{vec-items, vec-len};
@@ -14,7 +13,6 @@ use crate::faults::ReadFault;
 use crate::faults::ReadFaultFromAlloc;
 use crate::faults::ReadFaultFromFile;
 use crate::numbers::ranged;
-use floors::faults::FloorFault;
 use hall_floor::hall::HallFloor;
 use std::alloc::Global;
 
@@ -37,7 +35,7 @@ fn read_cells(heap: Global, bytes: &[u8], at: usize, cells: usize) -> Result<Vec
 }
 
 /// The hall floor whose mark begins the file.
-pub fn read_hall(heap: Global, bytes: &[u8]) -> Result<HallFloor, ReadFault>
+pub(crate) fn read_hall(heap: Global, bytes: &[u8]) -> Result<HallFloor, ReadFault>
     requires { ⌜ 2 ≤ length (now bytes) ⌝ }
     ensures value { λ r. ⌜ Agrees (λ f. cellular (hallOf f)) r (hallAt (now (bytes .entry))) ⌝ }
     ensures inside { λ r. ⌜ made r (λ f. 10 + vec-len (f .blocked) ≤ length (now (bytes .entry))) ⌝ }

@@ -8,7 +8,7 @@ ghost use Rattle.files.specs.Parse.{numberAt, rangedAt};
 use crate::faults::FileFault;
 
 /// The number at `at`, in the record whose mark stands at `mark`.
-pub fn number(bytes: &[u8], mark: usize, at: usize) -> Result<u16, FileFault>
+pub(crate) fn number(bytes: &[u8], mark: usize, at: usize) -> Result<u16, FileFault>
     requires { ⌜ at ≤ length (now bytes) ⌝ }
     ensures value { λ r. ⌜ r ≡ numberAt (now (bytes .entry)) mark at ⌝ }
     ensures inside { λ r. ⌜ made r (λ _. at + 2 ≤ length (now (bytes .entry))) ⌝ }
@@ -20,7 +20,7 @@ pub fn number(bytes: &[u8], mark: usize, at: usize) -> Result<u16, FileFault>
 }
 
 /// The same, of a number that is to be from `least` to `most`.
-pub fn ranged(bytes: &[u8], mark: usize, at: usize, least: u16, most: u16) -> Result<u16, FileFault>
+pub(crate) fn ranged(bytes: &[u8], mark: usize, at: usize, least: u16, most: u16) -> Result<u16, FileFault>
     requires { ⌜ at ≤ length (now bytes) ⌝ }
     ensures value { λ r. ⌜ r ≡ rangedAt (now (bytes .entry)) mark at least most ⌝ }
     ensures inside { λ r. ⌜ made r (λ v. (at + 2 ≤ length (now (bytes .entry))) × (least ≤ v) × (v ≤ most)) ⌝ }

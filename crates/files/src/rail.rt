@@ -22,7 +22,13 @@ use rail_floor::rail::RailFloor;
 use std::alloc::Global;
 
 /// The leg at `at`, on a floor of `size` places and behind the leg `before`.
-fn read_leg(bytes: &[u8], mark: usize, at: usize, size: u16, before: Option<Leg>) -> Result<Leg, FileFault>
+fn read_leg(
+    bytes: &[u8],
+    mark: usize,
+    at: usize,
+    size: u16,
+    before: Option<Leg>,
+) -> Result<Leg, FileFault>
     requires { ⌜ at ≤ length (now bytes) ⌝ }
     ensures value { λ r. ⌜ r ≡ legAt (now (bytes .entry)) mark at size before ⌝ }
     ensures inside { λ r. ⌜ made r (λ _. at + 6 ≤ length (now (bytes .entry))) ⌝ }
@@ -38,7 +44,14 @@ fn read_leg(bytes: &[u8], mark: usize, at: usize, size: u16, before: Option<Leg>
 }
 
 /// So many legs from `start` on.
-fn read_legs(heap: Global, bytes: &[u8], mark: usize, start: usize, size: u16, count: u16) -> Result<Vec<Leg>, ReadFault>
+fn read_legs(
+    heap: Global,
+    bytes: &[u8],
+    mark: usize,
+    start: usize,
+    size: u16,
+    count: u16,
+) -> Result<Vec<Leg>, ReadFault>
     requires { ⌜ start ≤ length (now bytes) ⌝ }
     ensures value { λ r. ⌜ Agrees vec-items r (legsAt (now (bytes .entry)) mark start size None count) ⌝ }
     ensures inside { λ r. ⌜ made r (λ v. (start + 6 * vec-len v ≤ length (now (bytes .entry))) × (vec-len v ≡ count)) ⌝ }
@@ -56,7 +69,7 @@ fn read_legs(heap: Global, bytes: &[u8], mark: usize, start: usize, size: u16, c
 }
 
 /// The rail floor whose mark begins the file.
-pub fn read_rail(heap: Global, bytes: &[u8]) -> Result<RailFloor, ReadFault>
+pub(crate) fn read_rail(heap: Global, bytes: &[u8]) -> Result<RailFloor, ReadFault>
     requires { ⌜ 2 ≤ length (now bytes) ⌝ }
     ensures value { λ r. ⌜ Agrees (λ f. rails (placesOf f) (legsOf f)) r (railAt (now (bytes .entry))) ⌝ }
     ensures inside { λ r. ⌜ made r (λ f. 6 + 6 * length (legsOf f) ≤ length (now (bytes .entry))) ⌝ }

@@ -29,14 +29,14 @@ pub impl fmt::Display for FileFault as FileFaultDisplay {
 
     fn fmt<W: fmt::Write>(&self, f: &mut fmt::Formatter<W>) -> fmt::Result {
         let number = self.number();
-        let fault = *self;
-        match fault {
-            FileFault::Ends { at } => write!(f, "{number} {at}"),
-            FileFault::WrongMark { at } => write!(f, "{number} {at}"),
-            FileFault::OutOfRange { at } => write!(f, "{number} {at}"),
-            FileFault::OutOfOrder { at } => write!(f, "{number} {at}"),
-            FileFault::Trailing { at } => write!(f, "{number} {at}"),
-        }
+        let at = match *self {
+            FileFault::Ends { at }
+            | FileFault::WrongMark { at }
+            | FileFault::OutOfRange { at }
+            | FileFault::OutOfOrder { at }
+            | FileFault::Trailing { at } => at,
+        };
+        write!(f, "{number} {at}")
     }
 }
 
@@ -46,8 +46,8 @@ pub impl fmt::Display for ReadFault as ReadFaultDisplay {
     fn fmt<W: fmt::Write>(&self, f: &mut fmt::Formatter<W>) -> fmt::Result {
         let fault = *self;
         match fault {
-            ReadFault::Short(table) => write!(f, "{table}"),
-            ReadFault::File(fault) => write!(f, "{fault}"),
+            ReadFault::Short(table) => table.fmt(f),
+            ReadFault::File(fault) => fault.fmt(f),
             ReadFault::Memory => write!(f, "no memory"),
         }
     }

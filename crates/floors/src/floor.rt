@@ -18,8 +18,10 @@ pub trait Floor: Sized {
     /// The exits of each place.
     ghost exits: { Self → ℕ → List ℕ };
 
-    /// A floor has 1 to 1,024 places.
+    /// A floor has at least 1 place.
     law some: { (f : Self) → 1 ≤ size f };
+
+    /// A floor has at most 1,024 places.
     law most: { (f : Self) → size f ≤ 1024 };
 
     /// The exits of a place are in rising order, so no two legs have both ends alike.
@@ -55,8 +57,10 @@ pub trait Measured: Floor {
     /// There is a length exactly where a leg leads.
     law led: { (f : Self) (p q : ℕ) → isSome (span f p q) ≡ has q (Self·Floor .exits f p) };
 
-    /// A length is 1 to 65,535 decimetres.
+    /// A length is at least 1 decimetre.
     law long: { (f : Self) (p q d : ℕ) → span f p q ≡ Some d → 1 ≤ d };
+
+    /// A length is at most 65,535 decimetres.
     law short: { (f : Self) (p q d : ℕ) → span f p q ≡ Some d → d ≤ 65535 };
 
     /// The length of the leg between two places; none where no leg leads.

@@ -1,23 +1,23 @@
 -- What a read plan's invariant says.
-use mathlib.Core.Path.{_≡_, refl, sym, ap, _∙_}
+use mathlib.Core.Path.{_≡_, sym, ap, _∙_}
 use mathlib.Core.Bool.{true}
-use mathlib.Core.List.{List, [], _∷_, map}
+use mathlib.Core.List.{List, [], _∷_}
 use Prim.Native.Nat.{ℕ, zero, suc, _+_, _-_, _<_, _≤_}
 use native.Mathlib.Omega.{arith}
 use lib.ListN.{length, getD, take, replicate}
 use Rattle.std.proofs.shelf.Lists.{length-map, length-take-le, getD-take, getD-append-left, getD-map}
-use Rattle.std.proofs.shelf.Maps.{nth-getD}
+use Rattle.std.proofs.shelf.Maps.{nth-getD, nth-past}
 use Rattle.std.proofs.shelf.Tests.{and-parts}
-use Rattle.std.proofs.shelf.Ways.{tells}
-use Rattle.std.specs.Of.Vec.{vec-items, vec-len}
-use Rattle.std.specs.declared.option.Option.the-variants.{Some}
+use Rattle.std.specs.Of.Vec.{vec-items}
+use Rattle.std.specs.declared.option.Option.the-variants.{Some, None}
 use Rattle.std.specs.shelf.Maps.{nth}
 use Rattle.store_floor.specs.Layout.{places, fitsLayout}
 use Rattle.plans.specs.declared.plans.ReadPlan.{ReadPlan}
-use Rattle.plans.specs.Plan.{Route, nobody, entriesOf, allOnFloor, fitsCarriers, fits}
+use Rattle.plans.specs.Plan.{Route, nobody, entriesOf, fitsCarriers}
 use Rattle.plans.specs.Tables.{noRow, rowsOf, rowTable, routeAt, routesIn}
 use Rattle.plans.specs.Held.{planOf}
 use Rattle.plans.proofs.Ahead.{rows-length}
+use Rattle.plans.proofs.Formed.{few-entries}
 use Rattle.plans.proofs.Tabled.{same-rows, row-within, last-row}
 
 module _ (p : ReadPlan) where
@@ -32,7 +32,7 @@ module _ (p : ReadPlan) where
   carriers-fit = and-parts (fitsLayout (planOf p .floor)) _ (p .fit) .1
 
   pub entries-few : length (entriesOf (planOf p .carriers)) ≤ 2048
-  entries-few = let f = carriers-fit in grind (arith, tells)
+  entries-few = few-entries (places (planOf p .floor)) (planOf p .carriers) carriers-fit
 
   pub rows-are : take 32 (vec-items (p .tables .rows)) ≡ rowTable (planOf p .carriers)
   rows-are = same-rows (take 32 (vec-items (p .tables .rows))) (rowTable (planOf p .carriers)) (p .rowed)
@@ -54,13 +54,18 @@ module _ (p : ReadPlan) where
   pub carrier-nth : (c : ℕ) → c < p .carriers → nth (planOf p .carriers) c ≡ Some (routeAt (vec-items (p .tables .entries)) (getD (vec-items (p .tables .rows)) c noRow))
   carrier-nth c h = nth-getD (planOf p .carriers) c nobody (omega (arith, carriers-count)) ∙ ap (λ r. Some r) (carrier-is c h)
 
+  -- there is no such carrier
+  pub carrier-none : (c : ℕ) → p .carriers ≤ c → nth (planOf p .carriers) c ≡ None
+  carrier-none c h = nth-past (planOf p .carriers) c (omega (arith, carriers-count))
+
   pub path-within : (c : ℕ) → c < p .carriers → getD (vec-items (p .tables .rows)) c noRow .before + getD (vec-items (p .tables .rows)) c noRow .count ≤ 2048
   path-within c h =
       let w = row-within 0 (planOf p .carriers) c (omega (arith, carriers-count)) in
       rw (row-is c h) (omega (arith, w, entries-few))
 
-  pub entries-count : (c : ℕ) → p .carriers ≡ c + 1 → getD (vec-items (p .tables .rows)) c noRow .before + getD (vec-items (p .tables .rows)) c noRow .count ≡ length (entriesOf (planOf p .carriers))
-  entries-count c h =
+  -- the path of the last carrier ends where all end
+  pub last-ends : (c : ℕ) → p .carriers ≡ c + 1 → getD (vec-items (p .tables .rows)) c noRow .before + getD (vec-items (p .tables .rows)) c noRow .count ≡ length (entriesOf (planOf p .carriers))
+  last-ends c h =
       let w = last-row 0 (planOf p .carriers) c (omega (arith, carriers-count)) in
       rw (row-is c (omega arith)) (omega (arith, w))
 

@@ -1,6 +1,6 @@
 -- The tests of carriers against a floor, one step of a loop at a time.
 use mathlib.Core.Path.{_≡_, refl, ap, _∙_}
-use mathlib.Core.Bool.{true, false}
+use mathlib.Core.Bool.{Bool, true, false, _&&_}
 use mathlib.Core.List.{List}
 use Prim.Native.Nat.{ℕ, _+_, _-_, _<_, _≤_}
 use native.Mathlib.Omega.{arith}
@@ -29,13 +29,9 @@ module _ (n : ℕ) (xs : List ℕ) (i : ℕ) where
   within-all h = at-drop-all (within n) xs i h
 
 module _ (cs : List Carrier) (i : ℕ) (x : Carrier) (h : i < length cs) (e : x ≡ getD cs i x) where
-  pub floor-more : (n : ℕ) → onFloor n (routeOf x) ≡ true → allOnFloor n (routesOf (drop i cs)) ≡ allOnFloor n (routesOf (drop (i + 1) cs))
+  pub floor-next : (n : ℕ) (b : Bool) → onFloor n (routeOf x) ≡ b → allOnFloor n (routesOf (drop i cs)) ≡ (b && allOnFloor n (routesOf (drop (i + 1) cs)))
   unfolding allOnFloor
-  floor-more n k = ap (allOnFloor n) (routes-more cs i x h e) ∙ rw k refl
-
-  pub floor-stop : (n : ℕ) → onFloor n (routeOf x) ≡ false → allOnFloor n (routesOf (drop i cs)) ≡ false
-  unfolding allOnFloor
-  floor-stop n k = ap (allOnFloor n) (routes-more cs i x h e) ∙ rw k refl
+  floor-next n b k = ap (allOnFloor n) (routes-more cs i x h e) ∙ rw k refl
 
   pub paths-more : (count room : ℕ) → count ≡ vec-len (x .path) → count ≤ room → leb (length (entriesOf (routesOf (drop i cs)))) room ≡ leb (length (entriesOf (routesOf (drop (i + 1) cs)))) (room - count)
   paths-more count room w k = rw (entries-count cs i x h e count w) (grind (arith, tells))

@@ -48,6 +48,6 @@ module _ (floor : StoreFloor) (cs : List Carrier) (t t′ : Tables) (fit : fitsC
   rows-laid =
       let few : length (rowsOf 0 (routesOf cs)) ≤ 32 = omega (arith, rows-length 0 (routesOf cs), few-carriers (places (layoutOf floor)) (routesOf cs) fit) in
       ap numbersIn
-      ( ap (take 32) r
+      (ap (take 32) r
       ∙ take-at (rowTable (routesOf cs)) (drop 32 (vec-items (t .rows))) 32 (filled-length 32 noRow (rowsOf 0 (routesOf cs)) few)
-      ∙ ap rowTable (sym carriers-held) )
+      ∙ ap rowTable (sym carriers-held))

@@ -26,9 +26,9 @@ routes-behind front (r ∷ more) rest =
     let two : front ++ ((r .path ++ entriesOf more) ++ rest) ≡ (front ++ r .path) ++ behind = one ∙ sym (append-assoc front (r .path) behind) in
     let n : length front + length (r .path) ≡ length (front ++ r .path) = sym (length-append front (r .path)) in
     let first : take (length (r .path)) (drop (length front) (front ++ ((r .path ++ entriesOf more) ++ rest))) ≡ r .path =
-        ap (λ zs. take (length (r .path)) (drop (length front) zs)) one ∙ path-back front (r .path) behind in
+    ap (λ zs. take (length (r .path)) (drop (length front) zs)) one ∙ path-back front (r .path) behind in
     let others : map (routeAt (front ++ ((r .path ++ entriesOf more) ++ rest))) (rowsOf (length front + length (r .path)) more) ≡ more =
-        (λ i. map (routeAt (two i)) (rowsOf (n i) more)) ∙ routes-behind (front ++ r .path) more rest in
+    (λ i. map (routeAt (two i)) (rowsOf (n i) more)) ∙ routes-behind (front ++ r .path) more rest in
     λ i. record { start = r .start; goal = r .goal; path = first i } ∷ others i
 
 -- the tables of carriers hold these carriers, whatever stands behind

@@ -5,8 +5,11 @@ use Prim.Native.Nat.{ℕ, _+_, _-_, _<_, _≤_}
 use native.Mathlib.Omega.{arith}
 use borrow.Rule.Slice.PartMut.{putMid}
 use lib.ListN.{length, take, drop, set, replicate, length-append}
-use Rattle.std.proofs.shelf.Lists.{take-append-drop, take-all, take-at, drop-at, drop-drop, drop-more, set-at, length-take-le, length-replicate, replicate-more}
+use Rattle.std.proofs.shelf.Lists.{refilled-is, take-append-drop, take-all, take-at, drop-at, drop-drop, drop-more, set-at, length-take-le, length-replicate, replicate-more}
 use Rattle.std.proofs.shelf.Parts.{putMid-paste}
+use Rattle.std.specs.Changed.{refilled}
+use Rattle.std.specs.Of.Vec.{vec-items}
+use Rattle.std.specs.declared.vec.Vec.{Vec}
 use Rattle.plans.specs.Tables.{filled}
 
 module _ {X : Type 0} (old : List X) (v : X) where
@@ -74,3 +77,7 @@ pub written-all : {X : Type 0} (all old table last : List X) (at i n : ℕ) (v :
     table ≡ take i all ++ drop i old → last ≡ take at table ++ (replicate (n - at) v ++ drop n table) → i ≡ at → at ≡ length all → at ≤ n → last ≡ filled n v all ++ drop n old
 written-all all old table last at i n v t l w e h =
     l ∙ ap (λ zs. take at zs ++ (replicate (n - at) v ++ drop n zs)) (t ∙ ap (λ k. take k all ++ drop k old) w) ∙ filled-up all old at n v e h
+
+-- a vector into which a front was written keeps what stands behind it
+pub front-written : {X Z : Type 0} (v : Vec X Z) (front table last : List X) (n : ℕ) → length last ≡ length table → length table ≡ v .len → table ≡ vec-items v → last ≡ front ++ drop n table → vec-items (refilled v last) ≡ front ++ drop n (vec-items v)
+front-written v front table last n kept len t w = refilled-is v last (kept ∙ len) ∙ (w ∙ ap (λ xs. front ++ drop n xs) t)

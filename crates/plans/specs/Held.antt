@@ -1,9 +1,6 @@
 -- The plan that a read plan holds.
 use mathlib.Core.List.{List, map}
-use Prim.Native.Nat.{ℕ}
 use Rattle.std.specs.Of.Vec.{vec-items}
-use Rattle.std.specs.declared.alloc.Global.{Global}
-use Rattle.std.specs.declared.vec.Vec.{Vec}
 use Rattle.store_floor.specs.Held.{layoutOf}
 use Rattle.plans.specs.declared.carriers.Carrier.{Carrier}
 use Rattle.plans.specs.declared.plans.ReadPlan.{ReadPlan}
@@ -18,5 +15,6 @@ routesOf cs = map routeOf cs
 
 abbrev pub planOf : ReadPlan → Plan
 planOf p = record {
-    floor = layoutOf (p .floor);
-    carriers = routesIn (vec-items (p .tables .entries)) (vec-items (p .tables .rows)) (p .carriers) }
+  floor = layoutOf (p .floor);
+  carriers = routesIn (vec-items (p .tables .entries)) (vec-items (p .tables .rows)) (p .carriers);
+}

@@ -38,7 +38,11 @@ impl ReadPlan {
         ensures entries { λ r. ⌜ take 2048 (vec-items (r .1 .entries)) ≡ entryTable (planOf self .carriers) ⌝ }
         ensures rows { λ r. ⌜ take 32 (vec-items (r .1 .rows)) ≡ rowTable (planOf self .carriers) ⌝ }
     {
-        let ReadPlan { floor, tables, carriers: _ } = self;
+        let ReadPlan {
+            floor,
+            tables,
+            carriers: _,
+        } = self;
         (floor, tables)
     }
 }

@@ -62,7 +62,10 @@ pub(crate) fn lay(tables: Tables, carriers: &[Carrier]) -> Tables
     ensures entries { λ r. ⌜ vec-items (r .entries) ≡ entryTable (routesOf (now (carriers .entry))) ++ drop 2048 (vec-items (tables .entries)) ⌝ }
     ensures rows { λ r. ⌜ vec-items (r .rows) ≡ rowTable (routesOf (now (carriers .entry))) ++ drop 32 (vec-items (tables .rows)) ⌝ }
 {
-    let Tables { mut entries, mut rows } = tables;
+    let Tables {
+        mut entries,
+        mut rows,
+    } = tables;
     write_entries(&mut entries, carriers);
     write_rows(&mut rows, carriers);
     Tables { entries, rows }

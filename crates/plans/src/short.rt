@@ -1,7 +1,6 @@
 //! Tables that are long enough, and the refusal of others.
 
 ghost use mathlib.Core.Path.{_≡_};
-ghost use Rattle.std.specs.Of.Vec.{vec-len};
 ghost use Rattle.std.specs.declared.option.Option.the-variants.{Some};
 ghost use Rattle.refusals.specs.Refusal.{spelt};
 ghost use Rattle.plans.specs.Short.{shortRefusal, Takes};
@@ -18,11 +17,19 @@ impl Tables {
     {
         if entries.len() < 2048 {
             let short = ShortTable::Entries;
-            return Err(TablesRefused { entries, rows, short });
+            return Err(TablesRefused {
+                entries,
+                rows,
+                short,
+            });
         }
         if rows.len() < 32 {
             let short = ShortTable::Rows;
-            return Err(TablesRefused { entries, rows, short });
+            return Err(TablesRefused {
+                entries,
+                rows,
+                short,
+            });
         }
         Ok(Tables { entries, rows })
     }

@@ -11,7 +11,32 @@ use std::test::*;
 
 /// Two places with a leg from 0 to 1, 9 decimetres long, and one carrier, which goes over it.
 const FILE: [u8; 26] = [
-    0x52, 0x46, 2, 0, 1, 0, 0, 0, 1, 0, 9, 0, 0x43, 0x41, 0, 0, 1, 0, 2, 0, 0, 0, 1, 0, 0x45, 0x4e,
+    0x52,
+    0x46,
+    2,
+    0,
+    1,
+    0,
+    0,
+    0,
+    1,
+    0,
+    9,
+    0,
+    0x43,
+    0x41,
+    0,
+    0,
+    1,
+    0,
+    2,
+    0,
+    0,
+    0,
+    1,
+    0,
+    0x45,
+    0x4e,
 ];
 
 /// A row that no plan writes.

@@ -1,4 +1,4 @@
-use mathlib.Core.Path.{_≡_, refl, sym, ap, _∙_}
+use mathlib.Core.Path.{_≡_, _∙_}
 use mathlib.Core.Bool.{true, false}
 use mathlib.Core.List.{[], _∷_, _++_}
 use Prim.Native.Nat.{suc, _+_, _-_}
@@ -48,12 +48,13 @@ loop-carriers-again c =
     let k : vec-items (c .push .last .self) ≡ vec-items (c .loop-carriers .carriers) ++ c .in-Continue-carrier .carrier ∷ [] = search needs in
     let e : c .len-entries .result ≡ length (vec-items (c .in-Continue-carrier .carrier .path)) = omega (arith, c .len-entries .ensures, c .in-Continue-carrier .carrier .path .ok .0) in
     let n : 32 - vec-len (c .loop-carriers .carriers) ≡ suc (32 - vec-len (c .push .last .self)) = omega (arith, c .in-Continue-push .ensures tt .len) in
-    let i = c .in-Continue-carrier .ensures tt .inside in
-    ( omega (arith, i .0)
-    , omega (arith, c .in-Continue-push .ensures tt .len)
-    , omega arith
-    , rw (k, map-push routeOf (vec-items (c .loop-carriers .carriers)) (c .in-Continue-carrier .carrier), e)
-      (c .loop-carriers .inv .3 ∙ carriers-more _ _ _ _ _ _ _ _ d (c .in-Continue-carrier .ensures tt .value) n) )
+    let i = c .in-Continue-carrier .ensures tt .inside in (
+      omega (arith, i .0),
+      omega (arith, c .in-Continue-push .ensures tt .len),
+      omega arith,
+      rw (k, map-push routeOf (vec-items (c .loop-carriers .carriers)) (c .in-Continue-carrier .carrier), e)
+          (c .loop-carriers .inv .3 ∙ carriers-more _ _ _ _ _ _ _ _ d (c .in-Continue-carrier .ensures tt .value) n),
+    )
 
 pub returns-then-at-bytes : need.returns-then-at-bytes
 returns-then-at-bytes c =

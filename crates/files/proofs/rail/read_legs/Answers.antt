@@ -1,13 +1,12 @@
-use mathlib.Core.Path.{_≡_, refl, sym, ap, _∙_}
+use mathlib.Core.Path.{_≡_, _∙_}
 use mathlib.Core.List.{[], _∷_, _++_}
-use Prim.Native.Nat.{suc, _+_, _-_, _≤_}
+use Prim.Native.Nat.{suc, _+_, _-_}
 use native.Mathlib.Omega.{arith}
 use borrow.Author.Needs.{needs}
-use lib.ListN.{length}
 use Rattle.std.specs.Of.Vec.{vec-items}
 use Rattle.std.proofs.shelf.Results.{err-from-errBy}
 use Rattle.files.specs.Parse.{legsAt}
-use Rattle.files.proofs.Listed.{after, after-none, after-all, legs-more, legs-stop}
+use Rattle.files.proofs.Listed.{after-none, after-all, legs-more, legs-stop}
 use Rattle.files.proofs.rail.read_legs.Needs as need
 
 pub loop-i-holds : need.loop-i-holds
@@ -24,11 +23,12 @@ returns-in-Break-leg c =
 pub loop-i-again : need.loop-i-again
 loop-i-again c =
     let n : c .args .count - c .loop-i .-i ≡ suc (c .args .count - (c .loop-i .-i + 1)) = omega arith in
-    let k : vec-items (c .push .last .self) ≡ vec-items (c .loop-i .legs) ++ c .in-Continue-leg .leg ∷ [] = search needs in
-    ( c .in-Continue-leg .ensures tt .inside
-    , search needs
-    , search needs
-    , rw k (c .loop-i .inv .3 ∙ legs-more _ _ _ _ _ _ _ _ _ (c .in-Continue-leg .ensures tt .value) n) )
+    let k : vec-items (c .push .last .self) ≡ vec-items (c .loop-i .legs) ++ c .in-Continue-leg .leg ∷ [] = search needs in (
+      c .in-Continue-leg .ensures tt .inside,
+      search needs,
+      search needs,
+      rw k (c .loop-i .inv .3 ∙ legs-more _ _ _ _ _ _ _ _ _ (c .in-Continue-leg .ensures tt .value) n),
+    )
 
 pub returns : need.returns
 unfolding legsAt

@@ -1,4 +1,4 @@
-use mathlib.Core.Path.{ap, sym, _∙_}
+use mathlib.Core.Path.{ap, _∙_}
 use mathlib.Core.List.{List}
 use Rattle.store_floor.specs.Layout.{places, fitsLayout}
 use Rattle.plans.specs.declared.carriers.Carrier.{Carrier}

@@ -8,9 +8,10 @@ returns-then-count-room c =
     sym (sym (c .loop-carrier .inv .1) ∙ paths-stop _ (c .loop-carrier .carrier-index) _ (c .loop-carrier-test .taken) (c .carrier-item .is) _ _ (c .len-count .ensures) (c .if-count-room .taken))
 
 pub loop-carrier-again : need.loop-carrier-again
-loop-carrier-again c =
-    ( omega arith
-    , sym (paths-more _ (c .loop-carrier .carrier-index) _ (c .loop-carrier-test .taken) (c .carrier-item .is) _ _ (c .len-count .ensures) (c .if-count-room .left)) ∙ c .loop-carrier .inv .1 )
+loop-carrier-again c = (
+  omega arith,
+  sym (paths-more _ (c .loop-carrier .carrier-index) _ (c .loop-carrier-test .taken) (c .carrier-item .is) _ _ (c .len-count .ensures) (c .if-count-room .left)) ∙ c .loop-carrier .inv .1,
+)
 
 pub returns : need.returns
 returns c = sym (sym (c .loop-carrier .inv .1) ∙ paths-all _ (c .loop-carrier .carrier-index) (omega arith) _)

@@ -1,4 +1,4 @@
-use mathlib.Core.Path.{_≡_, refl, sym, ap, _∙_}
+use mathlib.Core.Path.{_≡_, refl, ap, _∙_}
 use mathlib.Core.List.{_++_}
 use Prim.Native.Nat.{_+_, _-_, _≤_}
 use native.Mathlib.Omega.{arith}
@@ -43,12 +43,13 @@ loop-carrier-again c =
     let e = c .loop-carrier .inv .1 ∙ entries-more (c .args .carriers .now) (c .loop-carrier .carrier-index) (c .carrier-item .result) (c .loop-carrier-test .taken) (c .carrier-item .is) in
     let m = c .len-count .ensures ∙ c .carrier-item .result .path .ok .0 in
     let h : at ≤ length all = omega arith in
-    let w : at + n - at ≡ n = omega arith in
-    ( omega arith
-    , left-behind all (c .args .table .now) at h path rest n e m
-    , ap (λ zs. putMid at (at + n - at) zs (c .copy-from-slice .last .self)) (c .loop-carrier .inv .2)
-      ∙ ap (λ i. putMid at i (take at all ++ drop at (c .args .table .now)) (c .copy-from-slice .last .self)) w
-      ∙ written-more all (c .args .table .now) at h path rest (c .copy-from-slice .last .self) n e m (c .copy-from-slice .ensures .after ∙ c .deref .ensures .value) )
+    let w : at + n - at ≡ n = omega arith in (
+      omega arith,
+      left-behind all (c .args .table .now) at h path rest n e m,
+      ap (λ zs. putMid at (at + n - at) zs (c .copy-from-slice .last .self)) (c .loop-carrier .inv .2)
+          ∙ ap (λ i. putMid at i (take at all ++ drop at (c .args .table .now)) (c .copy-from-slice .last .self)) w
+          ∙ written-more all (c .args .table .now) at h path rest (c .copy-from-slice .last .self) n e m (c .copy-from-slice .ensures .after ∙ c .deref .ensures .value),
+    )
 
 pub clear-requires : need.clear-requires
 clear-requires c κs = (omega arith, omega arith)
@@ -58,4 +59,4 @@ unfolding entriesOf
 returns c =
     let z = ap (λ rs. length (entriesOf rs)) (routes-none (c .args .carriers .now) (c .loop-carrier .carrier-index) (c .loop-carrier-test .left)) in
     written-all (entriesOf (routesOf (c .args .carriers .now))) _ _ _ (c .loop-carrier .at) (c .loop-carrier .at) 2048 0
-        (c .loop-carrier .inv .2) (c .clear .ensures) refl (omega arith) (omega arith)
+    (c .loop-carrier .inv .2) (c .clear .ensures) refl (omega arith) (omega arith)

@@ -6,7 +6,7 @@ use Rattle.std.proofs.shelf.Lists.{nil-from-length}
 use Rattle.plans.specs.declared.rows.CarrierRow.{CarrierRow}
 use Rattle.plans.specs.Plan.{entriesOf}
 use Rattle.plans.specs.Held.{planOf}
-use Rattle.plans.proofs.Facts.{carriers-count, entries-count}
+use Rattle.plans.proofs.Facts.{carriers-count, last-ends}
 use Rattle.plans.proofs.plans.ReadPlan.entry_count.Needs as need
 
 pub returns-then-self-eq0 : need.returns-then-self-eq0
@@ -18,4 +18,4 @@ returns-then-self-eq0 c =
 pub returns : need.returns
 returns c =
     ap (λ (r : CarrierRow). r .before + r .count) (c .row-last .ensures .value)
-    ∙ entries-count (c .args .self .now) _ (omega arith)
+    ∙ last-ends (c .args .self .now) _ (omega arith)

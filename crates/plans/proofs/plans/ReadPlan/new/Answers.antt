@@ -9,7 +9,7 @@ use Rattle.store_floor.specs.declared.store.StoreFloor.{StoreFloor}
 use Rattle.store_floor.specs.Layout.{places}
 use Rattle.store_floor.specs.Held.{layoutOf}
 use Rattle.plans.specs.declared.carriers.Carrier.{Carrier}
-use Rattle.plans.specs.Plan.{Route, Plan, fitsCarriers}
+use Rattle.plans.specs.Plan.{Route, fitsCarriers}
 use Rattle.plans.specs.Held.{routesOf}
 use Rattle.plans.proofs.Ahead.{routes-length}
 use Rattle.plans.proofs.Formed.{few-carriers, few-entries, carriers-held, plan-fits, entries-laid, rows-laid}
@@ -38,20 +38,27 @@ ghost-result c =
     let t′ = c .lay .result in
     let p = passed floor cs (c .place-count .result) (c .place-count .ensures) (c .if-not-carriers-fit .ensures tt) in
     let e = c .lay .ensures .entries in
-    let r = c .lay .ensures .rows in
-    ( few (c .place-count .result) cs (c .if-not-carriers-fit .ensures tt)
-    , ( plan-fits floor cs t t′ p e r
-      , ( entries-laid floor cs t t′ p e r
-        , ( rows-laid floor cs t t′ p e r, tt ))))
+    let r = c .lay .ensures .rows in (
+      few (c .place-count .result) cs (c .if-not-carriers-fit .ensures tt),
+      (
+        plan-fits floor cs t t′ p e r,
+        (
+          entries-laid floor cs t t′ p e r,
+          (rows-laid floor cs t t′ p e r, tt),
+        ),
+      ),
+    )
 
 pub returns : need.returns
 returns c =
     let floor = c .args .floor in
     let cs = c .args .carriers .now in
-    let p = passed floor cs (c .place-count .result) (c .place-count .ensures) (c .if-not-carriers-fit .ensures tt) in
-    ( p
-    , record
-        { floor-is = refl
-        ; plan-is = ap (λ (rs : List Route). record { floor = layoutOf floor; carriers = rs }) (carriers-held floor cs (c .args .tables) (c .lay .result) p (c .lay .ensures .entries) (c .lay .ensures .rows))
-        ; entries-are = c .lay .ensures .entries
-        ; rows-are = c .lay .ensures .rows } )
+    let p = passed floor cs (c .place-count .result) (c .place-count .ensures) (c .if-not-carriers-fit .ensures tt) in (
+      p,
+      record {
+        floor-is = refl;
+        plan-is = ap (λ (rs : List Route). record { floor = layoutOf floor; carriers = rs }) (carriers-held floor cs (c .args .tables) (c .lay .result) p (c .lay .ensures .entries) (c .lay .ensures .rows));
+        entries-are = c .lay .ensures .entries;
+        rows-are = c .lay .ensures .rows;
+      },
+    )

@@ -1,10 +1,9 @@
-use mathlib.Core.Path.{_≡_, refl, sym, ap, _∙_}
+use mathlib.Core.Path.{_≡_, sym, ap, _∙_}
 use Prim.Native.Nat.{_+_, _-_, _≤_}
 use native.Mathlib.Omega.{arith}
 use borrow.Author.Needs.{needs}
 use lib.ListN.{length, take, drop}
 use Rattle.std.proofs.shelf.Lists.{getD-past}
-use Rattle.std.specs.Of.Vec.{vec-items}
 use Rattle.plans.specs.Plan.{Route, nobody}
 use Rattle.plans.proofs.Facts.{carriers-count, carrier-at}
 use Rattle.plans.proofs.plans.ReadPlan.path.Needs as need

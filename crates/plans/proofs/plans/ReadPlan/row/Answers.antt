@@ -1,6 +1,4 @@
 use mathlib.Core.Path.{_≡_, sym, ap, _∙_}
-use Prim.Native.Nat.{_+_, _≤_}
-use native.Mathlib.Omega.{arith}
 use borrow.Author.Needs.{needs}
 use lib.ListN.{getD}
 use Rattle.std.proofs.shelf.Lists.{getD-read}
@@ -14,9 +12,9 @@ use Rattle.plans.proofs.plans.ReadPlan.row.Needs as need
 pub returns : need.returns
 returns c =
     let p = c .args .self .now in
-    let x = c .index .result .now in
-    let e : c .index .result .now ≡ getD (vec-items (c .args .self .now .tables .rows)) (c .args .number) noRow = search (needs, getD-read) in
-    record
-      { value = e
-      ; says = carrier-nth p (c .args .number) (c .pre) ∙ ap (λ (r : CarrierRow). Some (routeAt (vec-items (p .tables .entries)) r)) (sym e)
-      ; within = rw e (path-within p (c .args .number) (c .pre)) }
+    let e : c .index .result .now ≡ getD (vec-items (p .tables .rows)) (c .args .number) noRow = search (needs, getD-read) in
+    record {
+      value = e;
+      says = carrier-nth p (c .args .number) (c .pre) ∙ ap (λ (r : CarrierRow). Some (routeAt (vec-items (p .tables .entries)) r)) (sym e);
+      within = rw e (path-within p (c .args .number) (c .pre));
+    }

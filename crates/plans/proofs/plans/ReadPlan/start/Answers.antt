@@ -1,13 +1,12 @@
 use mathlib.Core.Path.{sym, ap}
 use native.Mathlib.Omega.{arith}
-use Rattle.std.proofs.shelf.Maps.{nth-past}
 use Rattle.std.specs.Options.{mapped}
 use Rattle.plans.specs.Plan.{Route}
-use Rattle.plans.proofs.Facts.{carriers-count}
+use Rattle.plans.proofs.Facts.{carrier-none}
 use Rattle.plans.proofs.plans.ReadPlan.start.Needs as need
 
 pub returns-then-carrier-self : need.returns-then-carrier-self
-returns-then-carrier-self c = sym (ap (mapped (λ (x : Route). x .start)) (nth-past _ (c .args .carrier) (omega (arith, carriers-count (c .args .self .now)))))
+returns-then-carrier-self c = sym (ap (mapped (λ (x : Route). x .start)) (carrier-none (c .args .self .now) (c .args .carrier) (omega arith)))
 
 pub returns : need.returns
 returns c = sym (ap (mapped (λ (x : Route). x .start)) (c .row .ensures .says))

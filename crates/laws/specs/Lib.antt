@@ -1,0 +1,10 @@
+pub mod Paths
+pub mod Rules
+pub mod Chains
+pub mod Naming
+pub mod Pictures
+pub mod Judging
+pub mod Runs
+pub mod Strings
+pub mod Laws
+pub mod Examples
