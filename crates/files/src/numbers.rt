@@ -20,7 +20,13 @@ pub(crate) fn number(bytes: &[u8], mark: usize, at: usize) -> Result<u16, FileFa
 }
 
 /// The same, of a number that is to be from `least` to `most`.
-pub(crate) fn ranged(bytes: &[u8], mark: usize, at: usize, least: u16, most: u16) -> Result<u16, FileFault>
+pub(crate) fn ranged(
+    bytes: &[u8],
+    mark: usize,
+    at: usize,
+    least: u16,
+    most: u16,
+) -> Result<u16, FileFault>
     requires { ⌜ at ≤ length (now bytes) ⌝ }
     ensures value { λ r. ⌜ r ≡ rangedAt (now (bytes .entry)) mark at least most ⌝ }
     ensures inside { λ r. ⌜ made r (λ v. (at + 2 ≤ length (now (bytes .entry))) × (least ≤ v) × (v ≤ most)) ⌝ }
