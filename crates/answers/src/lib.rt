@@ -1,4 +1,5 @@
 //! What the program answers to a file.
+#![tactic(auto)]
 
 pub mod answer;
 pub mod ask;

@@ -5,7 +5,7 @@ use crate::board::{Board, CARRIERS};
 
 /// Whether no place of the board is held.
 pub fn is_empty<B: Board>(board: &B) -> bool
-    ensures { result ≡ empty (holders board.now) }
+    ensures { result ≡ empty (B.holders board.now) }
 {
     for carrier in 0..CARRIERS {
         match board.count(carrier) {

@@ -1,4 +1,5 @@
 //! Boards: which carrier holds which place. The kinds of board are crates of their own; each is proved against the trait here.
+#![tactic(auto)]
 
 pub mod board;
 pub mod empty;

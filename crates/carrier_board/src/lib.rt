@@ -1,4 +1,5 @@
 //! A board that is kept by carriers: two cells for each carrier, each with a place that it holds.
+#![tactic(auto)]
 
 ghost use Rattle.std.specs.Prelude.{◌≡◌, ◌<◌, length, IfSome, Some, None, slice_index_or};
 ghost use Rattle.boards.specs.Holders.{AllBelow};

@@ -1,5 +1,6 @@
 //! Asks for the answer to each file of a table, and compares it with the answer that the table has.
 //! A line of the table has a name, a file in hexadecimal and the answer, with tabs between.
+#![tactic(auto)]
 
 use answers::ask::answer;
 use anyhow::Context;

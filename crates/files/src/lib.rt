@@ -1,4 +1,5 @@
 //! Plan files: reading one into a plan, and what a file means.
+#![tactic(auto)]
 
 mod carriers;
 mod decode;

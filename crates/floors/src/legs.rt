@@ -5,7 +5,7 @@ use crate::floor::Floor;
 
 /// How many legs a floor has.
 pub fn leg_count<F: Floor>(floor: &F) -> usize
-    ensures { result ≡ legs_below (exits floor.now) (size floor.now) }
+    ensures { result ≡ legs_below (F.exits floor.now) (F.size floor.now) }
 {
     let mut legs = 0;
     for place in 0..floor.place_count() {

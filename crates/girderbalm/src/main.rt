@@ -1,4 +1,5 @@
 //! Reads a plan file from standard input, and prints the answer to it.
+#![tactic(auto)]
 
 use answers::ask::answer;
 use std::io::Read;

@@ -1,6 +1,6 @@
 -- The legs of a hall join the open cells that share a side, and are as long as the pitches.
 use Rattle.std.proofs.Common.{◌≡◌, ℕ, ◌≤◌, true, ◌⊎◌, is_some, Some, None, Option, sym, refl, ap, ◌∙◌, inl, inr, arith}
-use Rattle.std.proofs.lemmas.Bool.{and_parts, and_from, ltb-true, lt-ltb, not_true, not_from_false}
+use Rattle.std.proofs.lemmas.Bool.{and_parts, and_from, ltb-true, lt-ltb, not-true, not_from_false}
 use Rattle.hall_floor.specs.declared.sides.Side.{Side}
 use Rattle.hall_floor.specs.declared.sides.Side.TheVariants.{North, West, East, South}
 use Rattle.hall_floor.specs.Halls.{Hall, is_open, pitch, hall_length}
@@ -11,7 +11,7 @@ use Rattle.hall_floor.specs.Legs.{Lies, over_leads, leads_over, over_has, has_le
 
 open_parts : (h : Hall) (c : ℕ) → is_open h c ≡ true → Open h c
 unfolding is_open
-open_parts h c e = let p = and_parts _ _ e in (ltb-true _ _ p.0, not_true _ p.1)
+open_parts h c e = let p = and_parts _ _ e in (ltb-true _ _ p.0, not-true _ p.1)
 
 open_from : (h : Hall) (c : ℕ) → Open h c → is_open h c ≡ true
 unfolding is_open

@@ -1,8 +1,8 @@
 -- One turn of a loop over the sides of a cell.
-use Rattle.std.proofs.Common.{◌≡◌, ℕ, zero, suc, ◌+◌, ◌-◌, ◌<◌, true, false, List, ◌∷◌, length, get_or, drop, is_some, Some, None, Decides, Option, refl, ap, ◌∙◌, arith, MatchOption}
+use Rattle.std.proofs.Common.{◌≡◌, ℕ, zero, suc, ◌+◌, ◌-◌, ◌<◌, true, false, List, ◌∷◌, length, get_or, drop, is_some, Some, None, Option, refl, ap, sym, eqb, ◌∙◌, arith}
 use Rattle.std.specs.List.{slice_get}
 use Rattle.std.proofs.lemmas.List.{at_drop_more}
-use Rattle.std.proofs.lemmas.Bool.{ne_eqb, false≢true}
+use Rattle.std.specs.Option.{option_eq}
 use Rattle.hall_floor.specs.declared.sides.Side.TheVariants.{North}
 use Rattle.hall_floor.specs.Halls.{Hall, over, sides, listed, exits_over, is_cell, length_over}
 
@@ -49,6 +49,6 @@ length_later h c d i o k e apart =
     at_drop_more (length_over h c d) sides i North k ∙ (let no = rw e at apart in rw no)
 
 -- the answer of a test whether a leg leads to d
-pub cell_apart : (o : Option ℕ) (d : ℕ) → MatchOption o (false ≡ false) (λ x. Decides false (x ≡ d)) → is_cell o d ≡ false
+pub cell_apart : (o : Option ℕ) (d : ℕ) → false ≡ option_eq eqb o (Some d) → is_cell o d ≡ false
 cell_apart None d answer = refl
-cell_apart (Some x) d answer = ne_eqb x d (λ same. false≢true (answer.1 same))
+cell_apart (Some x) d answer = sym answer

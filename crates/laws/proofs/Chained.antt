@@ -1,6 +1,6 @@
 -- The first chain is found.
 use Rattle.std.proofs.Common.{◌≡◌, ℕ, zero, suc, ◌<◌, Bool, true, false, cond, not, ◌&&◌, eqb, ltb, ◌⊎◌, List, [], ◌∷◌, length, Some, None, Option, sym, refl, subst, ⊎_elim, arith}
-use Rattle.std.proofs.lemmas.Bool.{both_ways, cond_both, ltb-true, lt-ltb, eqb-true, eq-eqb, eqb-false, ne_eqb, and_parts, and_from, or_parts, or_from, not_true, not_from_false}
+use Rattle.std.proofs.lemmas.Bool.{both_ways, cond_both, ltb-true, lt-ltb, eqb-true, eq-eqb, eqb-false, ne_eqb, and_parts, and_from, or_parts, or_from, not-true, not_from_false}
 use Rattle.floors.specs.Exits.{has}
 use Rattle.plans.specs.Plan.{Plan}
 use Rattle.laws.specs.declared.pairs.Pair.{Pair}
@@ -133,7 +133,7 @@ test_passed : (p : Plan) (low : ℕ) (used : List ℕ) (u c t : ℕ) → Carrier
 test_passed p low used u c t h k e =
     let a = and_parts _ _ e in
     let b = and_parts _ _ a.1 in
-    record { leg = record { carrier = h; inside = k }; above = ltb-true low c a.0; free = not_true _ b.0; begins = eqb-true _ u b.1 }
+    record { leg = record { carrier = h; inside = k }; above = ltb-true low c a.0; free = not-true _ b.0; begins = eqb-true _ u b.1 }
 
 passes_test : (p : Plan) (low : ℕ) (used : List ℕ) (u c t : ℕ) → Open p low used u (pair c t) → tested p low used u c t ≡ true
 passes_test p low used u c t o = and_from _ _ (lt-ltb low c o.above) (and_from _ _ (not_from_false _ o.free) (eq-eqb _ u o.begins))

@@ -107,9 +107,9 @@ inside_leg p c t h = lt_pred (entries p c) t h
 
 module _ (p : Plan) where
   -- no path
-  no_path : Least (NoPath p) (no_path p)
+  no_path_lem : Least (NoPath p) (no_path p)
   unfolding no_path
-  no_path = go (first (carriers p) (λ c. when (eqb (entries p c) 0) c)) (searched (carriers p) (λ c. when (eqb (entries p c) 0) c) _ refl)
+  no_path_lem = go (first (carriers p) (λ c. when (eqb (entries p c) 0) c)) (searched (carriers p) (λ c. when (eqb (entries p c) 0) c) _ refl)
     where
       go : (r : Option ℕ) → Searched (carriers p) (λ c. when (eqb (entries p c) 0) c) r → Least (NoPath p) r
       go None w = λ c k. when_none (eqb (entries p c) 0) c (eq-eqb _ _ k.1) (w c k.0)
@@ -157,9 +157,9 @@ module _ (p : Plan) where
         )
       ]
 
-  wrong_end : LeastPair (WrongEnd p) (wrong_end p)
+  wrong_end_lem : LeastPair (WrongEnd p) (wrong_end p)
   unfolding wrong_end
-  wrong_end = go (first (carriers p) ends) (searched (carriers p) ends _ refl)
+  wrong_end_lem = go (first (carriers p) ends) (searched (carriers p) ends _ refl)
     where
       go : (r : Option (ℕ × ℕ)) → Searched (carriers p) ends r → LeastPair (WrongEnd p) r
       go None w = λ d u f. right d u (w d f.0) f
@@ -174,9 +174,9 @@ module _ (p : Plan) where
           )
 
   -- an entry without a leg into it
-  no_leg : LeastPair (NoLeg p) (no_leg p)
+  no_leg_lem : LeastPair (NoLeg p) (no_leg p)
   unfolding no_leg
-  no_leg = pair_found (carriers p) (last p) (λ c t. not (has (entry p c (suc t)) (exits_from p.floor (entry p c t)))) suc (NoLeg p)
+  no_leg_lem = pair_found (carriers p) (last p) (λ c t. not (has (entry p c (suc t)) (exits_from p.floor (entry p c t)))) suc (NoLeg p)
       (λ t u l. omega arith)
       (λ c t l k b.
       let e : suc t - 1 ≡ t = omega arith in
@@ -241,9 +241,9 @@ module _ (p : Plan) where
             ],
       )
 
-  foreign_goal : LeastTriple (ForeignGoal p) (foreign_goal p)
+  foreign_goal_lem : LeastTriple (ForeignGoal p) (foreign_goal p)
   unfolding foreign_goal
-  foreign_goal = go (first (carriers p) goals) (searched (carriers p) goals _ refl)
+  foreign_goal_lem = go (first (carriers p) goals) (searched (carriers p) goals _ refl)
     where
       go : (r : Option (ℕ × ℕ × ℕ)) → Searched (carriers p) goals r → LeastTriple (ForeignGoal p) r
       go None w = λ c u d f. let b = breach c u d f in no_goal c b.0 d (w c f.0) b.2 f.1 b.3
@@ -259,10 +259,10 @@ equal_found n f = pair_found n (λ c. n) (λ c d. ltb c d && eqb (f c) (f d)) (�
 
 pub rules_are_searched : (p : Plan) → RulesAreSearched p
 rules_are_searched p = record {
-  no_path = no_path p;
-  wrong_end = wrong_end p;
-  no_leg = no_leg p;
+  no_path = no_path_lem p;
+  wrong_end = wrong_end_lem p;
+  no_leg = no_leg_lem p;
   equal_starts = equal_found (carriers p) (start p);
   equal_goals = equal_found (carriers p) (goal p);
-  foreign_goal = foreign_goal p;
+  foreign_goal = foreign_goal_lem p;
 }

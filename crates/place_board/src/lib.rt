@@ -1,4 +1,5 @@
 //! A board that is kept by places: a cell for each place, with its holder.
+#![tactic(auto)]
 
 ghost use Rattle.std.specs.Prelude.{◌≡◌, length};
 ghost use Rattle.boards.specs.Holders.{Known, AtMostTwo};

@@ -1,4 +1,5 @@
 //! Plans: a floor, and carriers with start, goal and path, in the tables that the caller passes in.
+#![tactic(auto)]
 
 pub mod carriers;
 pub mod fit;

@@ -1,4 +1,5 @@
 //! What a search for a circular wait may leave out.
+#![tactic(auto)]
 
 pub mod aim;
 pub mod dropped;

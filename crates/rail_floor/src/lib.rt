@@ -1,4 +1,5 @@
 //! Rail floors: up to 4,096 legs, each listed on its own.
+#![tactic(auto)]
 
 pub mod build;
 pub mod laws;

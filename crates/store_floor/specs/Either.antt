@@ -4,7 +4,7 @@ use Rattle.std.proofs.Common.{arith}
 use Rattle.floors.specs.Exits.{Rises, has}
 use Rattle.rail_floor.specs.Ordered as rail
 use Rattle.hall_floor.specs.Fitting as hall
-use Rattle.hall_floor.specs.Legs as hall-legs
+use Rattle.hall_floor.specs.Legs as hall_legs
 use Rattle.store_floor.specs.declared.store.StoreFloor.{StoreFloor}
 use Rattle.store_floor.specs.declared.store.StoreFloor.TheVariants.{Rail, Hall}
 use Rattle.store_floor.specs.Layout.{Layout, rails, cellular, places, fits_layout, exits_from, leg_length}
@@ -15,39 +15,39 @@ layout_fits (Rail f) = f.fit
 layout_fits (Hall f) = f.fit
 
 pub places_some : (l : Layout) → fits_layout l ≡ true → 1 ≤ places l
-places_some (rails n legs) fit = (rail.rail-fit n legs fit).some
-places_some (cellular h) fit = hall.cells-some h fit
+places_some (rails n legs) fit = (rail.rail_fit n legs fit).some
+places_some (cellular h) fit = hall.cells_some h fit
 
 pub places_most : (l : Layout) → fits_layout l ≡ true → places l ≤ 1024
-places_most (rails n legs) fit = (rail.rail-fit n legs fit).most
-places_most (cellular h) fit = hall.cells-most h fit
+places_most (rails n legs) fit = (rail.rail_fit n legs fit).most
+places_most (cellular h) fit = hall.cells_most h fit
 
 pub exits_rise : (l : Layout) → fits_layout l ≡ true → (p : ℕ) → Rises (exits_from l p)
-exits_rise (rails n legs) fit p = rail.exits-rise n None legs p (rail.rail-fit n legs fit).order
-exits_rise (cellular h) fit p = hall-legs.exits-rise h (hall.width_some h fit) p
+exits_rise (rails n legs) fit p = rail.exits_rise n None legs p (rail.rail_fit n legs fit).order
+exits_rise (cellular h) fit p = hall_legs.exits_rise h (hall.width_some h fit) p
 
 pub exits_inside : (l : Layout) → fits_layout l ≡ true → (p q : ℕ) → has q (exits_from l p) ≡ true → q < places l
-exits_inside (rails n legs) fit p q e = rail.exits-inside n None legs p q (rail.rail-fit n legs fit).order e
-exits_inside (cellular h) fit p q e = hall-legs.open-inside h q (hall-legs.has-leads h (hall.width_some h fit) p q e).1.to
+exits_inside (rails n legs) fit p q e = rail.exits_inside n None legs p q (rail.rail_fit n legs fit).order e
+exits_inside (cellular h) fit p q e = hall_legs.open_inside h q (hall_legs.has_leads h (hall.width_some h fit) p q e).1.to
 
 pub exits_away : (l : Layout) → fits_layout l ≡ true → (p : ℕ) → has p (exits_from l p) ≡ false
-exits_away (rails n legs) fit p = rail.exits-away n None legs p (rail.rail-fit n legs fit).order
-exits_away (cellular h) fit p = hall-legs.exits-away h (hall.width_some h fit) p
+exits_away (rails n legs) fit p = rail.exits_away n None legs p (rail.rail_fit n legs fit).order
+exits_away (cellular h) fit p = hall_legs.exits_away h (hall.width_some h fit) p
 
 pub exits_beyond : (l : Layout) → fits_layout l ≡ true → (p : ℕ) → places l ≤ p → exits_from l p ≡ []
-exits_beyond (rails n legs) fit p outside = rail.exits-beyond n None legs p (rail.rail-fit n legs fit).order outside
-exits_beyond (cellular h) fit p outside = hall-legs.exits-beyond h p outside
+exits_beyond (rails n legs) fit p outside = rail.exits_beyond n None legs p (rail.rail_fit n legs fit).order outside
+exits_beyond (cellular h) fit p outside = hall_legs.exits_beyond h p outside
 
 pub lengths_led : (l : Layout) (p q : ℕ) → is_some (leg_length l p q) ≡ has q (exits_from l p)
 lengths_led (rails n legs) p q = rail.length-led legs p q
-lengths_led (cellular h) p q = hall-legs.lengths-led h p q
+lengths_led (cellular h) p q = hall_legs.lengths_led h p q
 
 pub lengths_some : (l : Layout) → fits_layout l ≡ true → (p q d : ℕ) → leg_length l p q ≡ Some d → 1 ≤ d
-lengths_some (rails n legs) fit p q d e = rail.length-long n None legs p q d (rail.rail-fit n legs fit).order e
+lengths_some (rails n legs) fit p q d e = rail.length_long n None legs p q d (rail.rail_fit n legs fit).order e
 lengths_some (cellular h) fit p q d e =
-    let s = hall-legs.lengths-pitch h p q d e in omega (arith, s.2, hall.pitch-some h fit s.0)
+    let s = hall_legs.lengths_pitch h p q d e in omega (arith, s.2, hall.pitch_some h fit s.0)
 
 pub lengths_most : (l : Layout) → fits_layout l ≡ true → (p q d : ℕ) → leg_length l p q ≡ Some d → d ≤ 65535
-lengths_most (rails n legs) fit p q d e = rail.length-short n None legs p q d (rail.rail-fit n legs fit).order e
+lengths_most (rails n legs) fit p q d e = rail.length_short n None legs p q d (rail.rail_fit n legs fit).order e
 lengths_most (cellular h) fit p q d e =
-    let s = hall-legs.lengths-pitch h p q d e in omega (arith, s.2, hall.pitch-most h fit s.0)
+    let s = hall_legs.lengths_pitch h p q d e in omega (arith, s.2, hall.pitch_most h fit s.0)

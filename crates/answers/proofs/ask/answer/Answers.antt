@@ -10,21 +10,21 @@ use Rattle.answers.specs.Told.{told}
 use Rattle.answers.proofs.Telling.{read_is, refused_is, never_short}
 use Rattle.answers.proofs.ask.answer.Goals as goal
 
-pub returns-in-err-rows : goal.returns-in-err-rows
-returns-in-err-rows c =
-    let p = err_from_is_err_and c.from-residual-in-err-rows.result c.from-residual-in-err-rows.ensures.1 in
+pub returns-in_err-rows : goal.returns-in_err-rows
+returns-in_err-rows c =
+    let p = err_from_is_err_and c.from_residual-in_err-rows.result c.from_residual-in_err-rows.ensures.1 in
     rw p.1 tt
 
 pub returns-in-Ok : goal.returns-in-Ok
 returns-in-Ok c =
-    let e = read_is _ _ c.in-ok-entries.ensures.len c.in-ok-rows.ensures.len (parse c.args.bytes.now) (plan_of c.in-Ok.plan) c.in-Ok.ensures.0 in
+    let e = read_is _ _ c.in_ok-entries.ensures.len c.in_ok-rows.ensures.len (parse c.args.bytes.now) (plan_of c.in-Ok.plan) c.in-Ok.ensures.0 in
     ap (λ (a : Account). Read a) c.account.ensures ∙ sym (ap (λ (x : Result Plan FileFault). told x) e)
 
 pub returns-in-File : goal.returns-in-File
 returns-in-File c =
-    let e = refused_is _ _ c.in-ok-entries.ensures.len c.in-ok-rows.ensures.len (parse c.args.bytes.now) c.in-Err.refused.fault c.in-File.fault c.in-File.is c.in-Err.ensures.2 in
+    let e = refused_is _ _ c.in_ok-entries.ensures.len c.in_ok-rows.ensures.len (parse c.args.bytes.now) c.in-Err.refused.fault c.in-File.fault c.in-File.is c.in-Err.ensures.2 in
     sym (ap (λ (x : Result Plan FileFault). told x) e)
 
 pub unreachable-requires : goal.unreachable-requires
 unreachable-requires c =
-    never_short _ _ c.in-ok-entries.ensures.len c.in-ok-rows.ensures.len (parse c.args.bytes.now) c.in-Err.refused.fault c.in-Short.field-0 c.in-Short.is c.in-Err.ensures.2
+    never_short _ _ c.in_ok-entries.ensures.len c.in_ok-rows.ensures.len (parse c.args.bytes.now) c.in-Err.refused.fault c.in-Short.field-0 c.in-Short.is c.in-Err.ensures.2

@@ -32,11 +32,11 @@ moves_on n hs c from to answer after l k a b mine one inside free =
       ap (λ w. holder_of w from) is ∙ left_free n both c from (ap length s ∙ length-set hs to (Some c) ∙ l) f,
     )
 
-pub returns-in-err-enter : goal.returns-in-err-enter
-returns-in-err-enter g c =
+pub returns-in_err-enter : goal.returns-in_err-enter
+returns-in_err-enter g c =
     let b = c.args.board.now in
     let hs = g.B.Board.holders b in
-    let a : c.from-residual.result ≡ advance_answer g.B.Board.size hs c.args.carrier c.args.from c.args.to = search rules in
+    let a : c.from_residual.result ≡ advance_answer g.B.Board.size hs c.args.carrier c.args.from c.args.to = search rules in
     let d : g.B.Board.holders c.enter.new.self ≡ advanced g.B.Board.size hs c.args.carrier c.args.from c.args.to = search rules in
     record { answer = a; after = d; moves = moves_on g.B.Board.size hs c.args.carrier c.args.from c.args.to _ _ (g.met.B.Board.sized b) (g.met.B.Board.known b) a d }
 

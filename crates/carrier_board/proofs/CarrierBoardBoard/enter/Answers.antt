@@ -29,18 +29,18 @@ returns-in-Some c =
     let a = enter_is 1024 hs k p _ (held hs k) (omega arith) (omega arith) (holder_found 1024 xs p _ (omega arith) c.in-Some.ensures.first) refl in
     record { answer = sym a; after = sym (entered_is 1024 hs k p a) }
 
-pub returns-in-Some-free-cell : goal.returns-in-Some-free-cell
-returns-in-Some-free-cell c =
+pub returns-in-Some-free_cell : goal.returns-in-Some-free_cell
+returns-in-Some-free_cell c =
     let b = c.args.self.now in
     let xs = b.cells in
     let p = c.args.place in
     let k = c.args.carrier in
-    let j = c.in-Some-free-cell.cell in
+    let j = c.in-Some-free_cell.cell in
     let hs = spread 1024 xs 0 in
-    let f = free_cell_lem xs k j c.in-Some-free-cell.ensures in
+    let f = free_cell_lem xs k j c.in-Some-free_cell.ensures in
     let l : j < length xs = omega (arith, b.long) in
-    let n = cell_absent xs 0 p (sym c.in-default.ensures.first) in
-    let free = holder_found 1024 xs p _ (omega arith) c.in-default.ensures.first in
+    let n = cell_absent xs 0 p (sym c.in_default.ensures.first) in
+    let free = holder_found 1024 xs p _ (omega arith) c.in_default.ensures.first in
     let count = held-cells 1024 xs k b.within b.apart in
     let a = enter_is 1024 hs k p _ _ (omega arith) (omega arith) free count ∙ cond-true (ltb _ 2) _ _ (lt-ltb _ 2 f.room) in
     let h : (0 + j) / 2 ≡ k = omega arith in
@@ -56,22 +56,20 @@ returns-in-None c =
     let p = c.args.place in
     let k = c.args.carrier in
     let hs = spread 1024 xs 0 in
-    let free = holder_found 1024 xs p _ (omega arith) c.in-default.ensures.first in
+    let free = holder_found 1024 xs p _ (omega arith) c.in_default.ensures.first in
     let count = held-cells 1024 xs k b.within b.apart ∙ no_free xs k c.in-None.ensures in
     let a = enter_is 1024 hs k p _ 2 (omega arith) (omega arith) free count in
     record { answer = sym a; after = sym (entered_is 1024 hs k p a) }
 
-pub invariant-of-self : goal.invariant-of-self
-invariant-of-self c =
+pub invariant_of-self : goal.invariant_of-self
+invariant_of-self c =
     let b = c.args.self.now in
     let p = c.args.place in
-    let j = c.in-Some-free-cell.cell in
-    let f = free_cell_lem b.cells c.args.carrier j c.in-Some-free-cell.ensures in
+    let j = c.in-Some-free_cell.cell in
+    let f = free_cell_lem b.cells c.args.carrier j c.in-Some-free_cell.ensures in
     let l : j < length b.cells = omega (arith, b.long) in
-    let n = cell_absent b.cells 0 p (sym c.in-default.ensures.first) in (
-      length-set b.cells j (Some p) ∙ b.long,
-      (
-        all_below_set 1024 b.cells j (Some p) b.within (some_below 1024 p (omega arith)),
-        (apart_set b.cells j p b.apart l n, tt),
-      ),
-    )
+    let n = cell_absent b.cells 0 p (sym c.in_default.ensures.first) in record {
+      long = length-set b.cells j (Some p) ∙ b.long;
+      within = all_below_set 1024 b.cells j (Some p) b.within (some_below 1024 p (omega arith));
+      apart = apart_set b.cells j p b.apart l n
+    }

@@ -51,14 +51,12 @@ returns-in-None c =
     let a = leave_is 1024 hs k p _ (omega arith) (omega arith) (holder_found 1024 xs p _ (omega arith) c.in-None.ensures.first) in
     record { answer = sym a; after = sym (left_is 1024 hs k p a) }
 
-pub invariant-of-self : goal.invariant-of-self
-invariant-of-self c =
+pub invariant_of-self : goal.invariant_of-self
+invariant_of-self c =
     let b = c.args.self.now in
     let j = c.in-Some.cell in
-    let l : j < length b.cells = omega (arith, b.long, c.in-Some.ensures.found.0) in (
-      length-set b.cells j None ∙ b.long,
-      (
-        all_below_set 1024 b.cells j None b.within (none_below 1024),
-        (apart_clear b.cells j b.apart l, tt),
-      ),
-    )
+    let l : j < length b.cells = omega (arith, b.long, c.in-Some.ensures.found.0) in record {
+      long = length-set b.cells j None ∙ b.long;
+      within = all_below_set 1024 b.cells j None b.within (none_below 1024);
+      apart = apart_clear b.cells j b.apart l
+    }

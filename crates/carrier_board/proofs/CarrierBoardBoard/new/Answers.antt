@@ -8,5 +8,5 @@ use Rattle.carrier_board.proofs.CarrierBoardBoard.new.Goals as goal
 pub returns : goal.returns
 returns c = spread_none 1024 64 0
 
-pub invariant-of-result : goal.invariant-of-result
-invariant-of-result c = (refl, (all_below_none 1024 64, (apart_none 64, tt)))
+pub invariant_of-result : goal.invariant_of-result
+invariant_of-result c = record { long = refl; within = all_below_none 1024 64; apart = apart_none 64 }

@@ -2,9 +2,9 @@ use Rattle.std.proofs.Common.{rules}
 use Rattle.files.specs.Parse.{follows_at}
 use Rattle.files.proofs.carriers.carrier_follows.Goals as goal
 
-pub returns-in-err-mark : goal.returns-in-err-mark
+pub returns-in_err-mark : goal.returns-in_err-mark
 unfolding follows_at
-returns-in-err-mark c = search rules
+returns-in_err-mark c = search rules
 
 pub returns-then-mark-eq-CARRIER : goal.returns-then-mark-eq-CARRIER
 unfolding follows_at

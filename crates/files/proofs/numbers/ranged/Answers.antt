@@ -2,9 +2,9 @@ use Rattle.std.proofs.Common.{rules}
 use Rattle.files.specs.Parse.{ranged_at}
 use Rattle.files.proofs.numbers.ranged.Goals as goal
 
-pub returns-in-err-value : goal.returns-in-err-value
+pub returns-in_err-value : goal.returns-in_err-value
 unfolding ranged_at
-returns-in-err-value c = search rules
+returns-in_err-value c = search rules
 
 pub returns-then-value-least : goal.returns-then-value-least
 unfolding ranged_at

@@ -9,24 +9,24 @@ loop-i-init c =
     let e : c.args.count - 0 ≡ c.args.count = omega arith in
     (c.requires, omega arith, omega arith, rw (c.new-legs.ensures.items, e) (after_none _))
 
-pub returns-in-err-leg : goal.returns-in-err-leg
-returns-in-err-leg c =
-    let p = err_from_is_err_and c.from-residual.result c.from-residual.ensures.1 in
-    let n : c.args.count - c.loop-i.-i ≡ suc (c.args.count - (c.loop-i.-i + 1)) = omega arith in
-    rw (p.1, p.2) (record { value = c.loop-i.invariant.3 ∙ legs_stop _ _ _ _ _ _ _ _ _ c.in-err-leg.ensures.value n; inside = tt })
+pub returns-in_err-leg : goal.returns-in_err-leg
+returns-in_err-leg c =
+    let p = err_from_is_err_and c.from_residual.result c.from_residual.ensures.1 in
+    let n : c.args.count - c.loop-i._i ≡ suc (c.args.count - (c.loop-i._i + 1)) = omega arith in
+    rw (p.1, p.2) (record { value = c.loop-i.invariant.3 ∙ legs_stop _ _ _ _ _ _ _ _ _ c.in_err-leg.ensures.value n; inside = tt })
 
 pub loop-i-preserved : goal.loop-i-preserved
 loop-i-preserved c =
-    let n : c.args.count - c.loop-i.-i ≡ suc (c.args.count - (c.loop-i.-i + 1)) = omega arith in
-    let k : vec_items c.push.new.self ≡ vec_items c.loop-i.legs ++ c.in-ok-leg.leg ∷ [] = search rules in (
-      c.in-ok-leg.ensures.inside,
+    let n : c.args.count - c.loop-i._i ≡ suc (c.args.count - (c.loop-i._i + 1)) = omega arith in
+    let k : vec_items c.push.new.self ≡ vec_items c.loop-i.legs ++ c.in_ok-leg.leg ∷ [] = search rules in (
+      c.in_ok-leg.ensures.inside,
       search rules,
       search rules,
-      rw k (c.loop-i.invariant.3 ∙ legs_more _ _ _ _ _ _ _ _ _ c.in-ok-leg.ensures.value n),
+      rw k (c.loop-i.invariant.3 ∙ legs_more _ _ _ _ _ _ _ _ _ c.in_ok-leg.ensures.value n),
     )
 
 pub returns : goal.returns
 unfolding legs_at
 returns c =
-    let n : c.args.count - c.loop-i.-i ≡ 0 = omega arith in
+    let n : c.args.count - c.loop-i._i ≡ 0 = omega arith in
     record { value = c.loop-i.invariant.3 ∙ rw n (after_all_lem _); inside = (omega arith, omega arith) }

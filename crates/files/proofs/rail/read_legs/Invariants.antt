@@ -7,5 +7,5 @@ abbrev pub invariant-loop-i : goal.invariant-loop-i
 invariant-loop-i l =
     (l.at ≤ length l.bytes)
     × (l.at ≡ l.start + 6 * vec_len l.legs)
-    × (vec_len l.legs ≡ l.-i)
-    × (legs_at l.bytes l.mark l.start l.size None l.count ≡ after (vec_items l.legs) (legs_at l.bytes l.mark l.at l.size l.before (l.count - l.-i)))
+    × (vec_len l.legs ≡ l._i)
+    × (legs_at l.bytes l.mark l.start l.size None l.count ≡ after (vec_items l.legs) (legs_at l.bytes l.mark l.at l.size l.before (l.count - l._i)))

@@ -11,17 +11,17 @@ use Rattle.files.proofs.Numbered.{true_false}
 use Rattle.files.proofs.Whole.{rail_ok}
 use Rattle.files.proofs.rail.read_rail.Goals as goal
 
-pub returns-in-err-size : goal.returns-in-err-size
+pub returns-in_err-size : goal.returns-in_err-size
 unfolding rail_at
-returns-in-err-size c = search rules
+returns-in_err-size c = search rules
 
-pub returns-in-err-count : goal.returns-in-err-count
+pub returns-in_err-count : goal.returns-in_err-count
 unfolding rail_at
-returns-in-err-count c = search rules
+returns-in_err-count c = search rules
 
-pub returns-in-err-legs : goal.returns-in-err-legs
+pub returns-in_err-legs : goal.returns-in_err-legs
 unfolding rail_at
-returns-in-err-legs c = search rules
+returns-in_err-legs c = search rules
 
 -- a floor is refused as unfit only where it is unfit
 unfit : (size : ℕ) (legs : List Leg) (e : FloorFault) → e ≡ Unfit → Makes (fits_rail size legs) (IsRail size legs) (Err e) → fits_rail size legs ≡ false
@@ -30,8 +30,8 @@ unfit size legs e k m = subst (λ (e : FloorFault). Makes (fits_rail size legs) 
 pub unreachable-requires : goal.unreachable-requires
 unfolding rail_at
 unreachable-requires c =
-    let v : rail_at c.args.bytes.now ≡ Ok (rails c.in-ok-size.size (vec_items c.in-ok-legs.legs)) = search rules in
-    true_false (rail_ok c.args.bytes.now _ v).fit (unfit c.in-ok-size.size (vec_items c.in-ok-legs.legs) c.in-Err.fault c.in-Unfit.is c.in-Err.ensures)
+    let v : rail_at c.args.bytes.now ≡ Ok (rails c.in_ok-size.size (vec_items c.in_ok-legs.legs)) = search rules in
+    true_false (rail_ok c.args.bytes.now _ v).fit (unfit c.in_ok-size.size (vec_items c.in_ok-legs.legs) c.in-Err.fault c.in-Unfit.is c.in-Err.ensures)
 
 pub returns-in-Ok : goal.returns-in-Ok
 unfolding rail_at

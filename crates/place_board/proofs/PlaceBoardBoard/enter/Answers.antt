@@ -26,8 +26,8 @@ pub returns : goal.returns
 unfolding enter_answer
 returns c = search rules
 
-pub invariant-of-self : goal.invariant-of-self
-invariant-of-self c =
+pub invariant_of-self : goal.invariant_of-self
+invariant_of-self c =
     let b = c.args.self.now in
     let k = c.args.carrier in
     let p = c.args.place in
@@ -35,16 +35,10 @@ invariant-of-self c =
     let w : k < length b.counts = omega (arith, b.wide) in
     let n : k < 32 = omega arith in
     let e : get_or b.counts k 0 ≡ held b.cells k = b.counted k n in
-    let free : Free b.cells p = search rules in (
-      length-set b.cells p (Some k) ∙ b.long,
-      (
-        length-set b.counts k _ ∙ b.wide,
-        (
-          all_below_set 32 b.cells p (Some k) b.known (some_below 32 k n),
-          (
-            few_enter b.cells p k l free (omega arith) b.few,
-            (counted_enter b.cells b.counts p k l free w n b.counted, tt),
-          ),
-        ),
-      ),
-    )
+    let free : Free b.cells p = search rules in record {
+      long = length-set b.cells p (Some k) ∙ b.long;
+      wide = length-set b.counts k _ ∙ b.wide;
+      known = all_below_set 32 b.cells p (Some k) b.known (some_below 32 k n);
+      few = few_enter b.cells p k l free (omega arith) b.few;
+      counted = counted_enter b.cells b.counts p k l free w n b.counted
+    }

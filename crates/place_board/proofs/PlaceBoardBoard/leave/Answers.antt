@@ -22,8 +22,8 @@ pub returns : goal.returns
 unfolding leave_answer
 returns c = search rules
 
-pub overflow-sub-self : goal.overflow-sub-self
-overflow-sub-self c =
+pub overflow_sub-self : goal.overflow_sub-self
+overflow_sub-self c =
     let b = c.args.self.now in
     let k = c.args.carrier in
     let p = c.args.place in
@@ -31,24 +31,18 @@ overflow-sub-self c =
     let mine : Holds b.cells k p = search rules in
     omega (arith, b.counted k (omega arith), held_some b.cells p k l mine)
 
-pub invariant-of-self : goal.invariant-of-self
-invariant-of-self c =
+pub invariant_of-self : goal.invariant_of-self
+invariant_of-self c =
     let b = c.args.self.now in
     let k = c.args.carrier in
     let p = c.args.place in
     let l : p < length b.cells = omega (arith, b.long) in
     let w : k < length b.counts = omega (arith, b.wide) in
     let n : k < 32 = omega arith in
-    let mine : Holds b.cells k p = search rules in (
-      length-set b.cells p None ∙ b.long,
-      (
-        length-set b.counts k _ ∙ b.wide,
-        (
-          all_below_set 32 b.cells p None b.known (none_below 32),
-          (
-            few_leave b.cells p l b.few,
-            (counted_leave b.cells b.counts p k l mine w n b.counted, tt),
-          ),
-        ),
-      ),
-    )
+    let mine : Holds b.cells k p = search rules in record {
+      long = length-set b.cells p None ∙ b.long;
+      wide = length-set b.counts k _ ∙ b.wide;
+      known = all_below_set 32 b.cells p None b.known (none_below 32);
+      few = few_leave b.cells p l b.few;
+      counted = counted_leave b.cells b.counts p k l mine w n b.counted
+    }

@@ -12,17 +12,17 @@ next_within c =
     let k = entries_count c.args.carriers.now c.loop-carrier.carrier-index c.carrier-item.result c.loop-carrier-test.true c.carrier-item.is c.len-count.result c.len-count.ensures in
     omega arith
 
-pub overflow-add-at : goal.overflow-add-at
-overflow-add-at c = let k = next_within c in search rules
+pub overflow_add-at : goal.overflow_add-at
+overflow_add-at c = let k = next_within c in search rules
 
-pub offset-bounds-table-at : goal.offset-bounds-table-at
-offset-bounds-table-at c = let k = next_within c in search rules
+pub offset_bounds-table-at : goal.offset_bounds-table-at
+offset_bounds-table-at c = let k = next_within c in search rules
 
-pub slice-bounds-copy-from-slice-end : goal.slice-bounds-copy-from-slice-end
-slice-bounds-copy-from-slice-end c = let k = next_within c in search rules
+pub slice_bounds-copy_from_slice-end : goal.slice_bounds-copy_from_slice-end
+slice_bounds-copy_from_slice-end c = let k = next_within c in search rules
 
-pub overflow-add-at-in-loop-carrier : goal.overflow-add-at-in-loop-carrier
-overflow-add-at-in-loop-carrier c =
+pub overflow_add-at-in-loop-carrier : goal.overflow_add-at-in-loop-carrier
+overflow_add-at-in-loop-carrier c =
     let k = entries_count c.args.carriers.now c.loop-carrier.carrier-index c.carrier-item.result c.loop-carrier-test.true c.carrier-item.is c.len-count.result c.len-count.ensures in
     search rules
 
@@ -40,9 +40,9 @@ loop-carrier-preserved c =
     let w : at + n - at ≡ n = omega arith in (
       omega arith,
       left_behind all c.args.table.now at h path rest n e m,
-      ap (λ zs. put_mid at (at + n - at) zs c.copy-from-slice.new.self) c.loop-carrier.invariant.2
-          ∙ ap (λ i. put_mid at i (take at all ++ drop at c.args.table.now) c.copy-from-slice.new.self) w
-          ∙ written_more all c.args.table.now at h path rest c.copy-from-slice.new.self n e m (c.copy-from-slice.ensures.after ∙ c.deref.ensures.value),
+      ap (λ zs. put_mid at (at + n - at) zs c.copy_from_slice.new.self) c.loop-carrier.invariant.2
+          ∙ ap (λ i. put_mid at i (take at all ++ drop at c.args.table.now) c.copy_from_slice.new.self) w
+          ∙ written_more all c.args.table.now at h path rest c.copy_from_slice.new.self n e m (c.copy_from_slice.ensures.after ∙ c.deref.ensures.value),
     )
 
 pub clear-requires : goal.clear-requires

@@ -15,11 +15,11 @@ next_count c = entries_count c.args.carriers.now c.loop-c.c c.index-carriers-c.r
 next_within : (c : goal.After-len-count) → c.loop-c.before + c.len-count.result ≤ 2048
 next_within c = let k = next_count c in omega arith
 
-pub overflow-cast-count : goal.overflow-cast-count
-overflow-cast-count c = let k = next_within c in search rules
+pub overflow_cast-count : goal.overflow_cast-count
+overflow_cast-count c = let k = next_within c in search rules
 
-pub overflow-add-before : goal.overflow-add-before
-overflow-add-before c = let k = next_within c in search rules
+pub overflow_add-before : goal.overflow_add-before
+overflow_add-before c = let k = next_within c in search rules
 
 pub loop-c-preserved : goal.loop-c-preserved
 loop-c-preserved c =

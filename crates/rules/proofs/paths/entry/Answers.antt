@@ -7,4 +7,4 @@ use Rattle.rules.proofs.paths.entry.Goals as goal
 
 pub returns : goal.returns
 unfolding entry
-returns c = c.unwrap-or.ensures ∙ (ap (λ o. unwrap_or o 0) c.entry.ensures ∙ value_nth (carrier (plan_of c.args.plan.now) c.args.carrier).path c.args.t)
+returns c = c.unwrap_or.ensures ∙ (ap (λ o. unwrap_or o 0) c.entry.ensures ∙ value_nth (carrier (plan_of c.args.plan.now) c.args.carrier).path c.args.t)

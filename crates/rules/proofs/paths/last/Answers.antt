@@ -14,12 +14,12 @@ pred_is : (n m : ℕ) → n ≡ m → n - 1 ≡ pred m
 pred_is n zero e = omega arith
 pred_is n (suc m) e = omega arith
 
-pub overflow-cast-path : goal.overflow-cast-path
-overflow-cast-path c = let k = short c.args.plan.now c.args.carrier in let e = ap length c.path.ensures in search rules
+pub overflow_cast-path : goal.overflow_cast-path
+overflow_cast-path c = let k = short c.args.plan.now c.args.carrier in let e = ap length c.path.ensures in search rules
 
 pub returns : goal.returns
 unfolding last
 returns c =
     let k = short c.args.plan.now c.args.carrier in
     let e = ap length c.path.ensures in
-    record { value = c.saturating-sub.ensures ∙ pred_is _ _ e; few = omega (arith, c.saturating-sub.ensures) }
+    record { value = c.saturating_sub.ensures ∙ pred_is _ _ e; few = omega (arith, c.saturating_sub.ensures) }

@@ -17,4 +17,4 @@ returns c =
     let t = c.args.t in
     let u = c.entry-2.ensures ∙ ap (entry p k) (add-one t) in
     let l = c.length.ensures ∙ (λ i. leg_length (layout_of (c.floor.ensures i)) (c.entry.ensures i) (u i)) in
-    twice_not c.is-none.result ∙ ap not (sym c.is-none.ensures ∙ (ap is_some l ∙ lengths_led p.floor (entry p k t) (entry p k (suc t))))
+    twice_not c.is_none.result ∙ ap not (sym c.is_none.ensures ∙ (ap is_some l ∙ lengths_led p.floor (entry p k t) (entry p k (suc t))))

@@ -11,7 +11,7 @@ unfolding wrong_end
 returns-then-entry-start c =
     let p = plan_of c.args.plan.now in
     let k = c.loop-carrier.carrier in
-    sym (first_hit (carriers p) k (wrong_ends p) (k, 0) (omega (arith, c.carrier-count-carrier-end.ensures)) c.loop-carrier.invariant
+    sym (first_hit (carriers p) k (wrong_ends p) (k, 0) (omega (arith, c.carrier_count-carrier-end.ensures)) c.loop-carrier.invariant
     (first_differs (k, 0) (k, last p k) (entry p k 0) (start p k) (entry p k (last p k)) (goal' p k) (λ e. c.if-entry-start.true (c.entry.ensures ∙ e ∙ sym c.start.ensures))))
 
 pub returns-then-entry-goal : goal.returns-then-entry-goal
@@ -20,7 +20,7 @@ returns-then-entry-goal c =
     let p = plan_of c.args.plan.now in
     let k = c.loop-carrier.carrier in
     let l = c.last-end.ensures.value in
-    sym (first_hit (carriers p) k (wrong_ends p) (k, c.last-end.result) (omega (arith, c.carrier-count-carrier-end.ensures)) c.loop-carrier.invariant
+    sym (first_hit (carriers p) k (wrong_ends p) (k, c.last-end.result) (omega (arith, c.carrier_count-carrier-end.ensures)) c.loop-carrier.invariant
     (second_differs (k, 0) (k, last p k) (entry p k 0) (start p k) (entry p k (last p k)) (goal' p k)
     (sym c.entry.ensures ∙ c.if-entry-start.false ∙ c.start.ensures)
     (λ e. c.if-entry-goal.true (c.entry-in-loop-carrier.ensures ∙ ap (entry p k) l ∙ e ∙ sym c.goal.ensures))
@@ -38,4 +38,4 @@ loop-carrier-preserved c =
 
 pub returns : goal.returns
 unfolding wrong_end
-returns c = sym (first_end (carriers (plan_of c.args.plan.now)) c.loop-carrier.carrier (wrong_ends (plan_of c.args.plan.now)) (omega (arith, c.carrier-count-carrier-end.ensures)) c.loop-carrier.invariant)
+returns c = sym (first_end (carriers (plan_of c.args.plan.now)) c.loop-carrier.carrier (wrong_ends (plan_of c.args.plan.now)) (omega (arith, c.carrier_count-carrier-end.ensures)) c.loop-carrier.invariant)

@@ -18,36 +18,32 @@ few n cs t = omega (arith, routes_length cs, few_carriers n (routes_of cs) (sym 
 
 pub lay-requires : goal.lay-requires
 lay-requires c =
-    let t = c.if-not-carriers-fit.ensures in
-    record { carriers = few c.place-count.result c.args.carriers.now t; entries = few_entries c.place-count.result (routes_of c.args.carriers.now) (sym t) }
+    let t = c.if-not-carriers_fit.ensures in
+    record { carriers = few c.place_count.result c.args.carriers.now t; entries = few_entries c.place_count.result (routes_of c.args.carriers.now) (sym t) }
 
-pub overflow-cast-result : goal.overflow-cast-result
-overflow-cast-result c = let k = few c.place-count.result c.args.carriers.now c.if-not-carriers-fit.ensures in search rules
+pub overflow_cast-result : goal.overflow_cast-result
+overflow_cast-result c = let k = few c.place_count.result c.args.carriers.now c.if-not-carriers_fit.ensures in search rules
 
-pub invariant-of-result : goal.invariant-of-result
-invariant-of-result c =
+pub invariant_of-result : goal.invariant_of-result
+invariant_of-result c =
     let floor = c.args.floor in
     let cs = c.args.carriers.now in
     let t = c.args.tables in
     let t' = c.lay.result in
-    let p = passed floor cs c.place-count.result c.place-count.ensures c.if-not-carriers-fit.ensures in
+    let p = passed floor cs c.place_count.result c.place_count.ensures c.if-not-carriers_fit.ensures in
     let e = c.lay.ensures.entries in
-    let r = c.lay.ensures.rows in (
-      few c.place-count.result cs c.if-not-carriers-fit.ensures,
-      (
-        plan_fits floor cs t t' p e r,
-        (
-          entries_laid floor cs t t' p e r,
-          (rows_laid floor cs t t' p e r, tt),
-        ),
-      ),
-    )
+    let r = c.lay.ensures.rows in record {
+      few = few c.place_count.result cs c.if-not-carriers_fit.ensures;
+      fit = plan_fits floor cs t t' p e r;
+      laid = entries_laid floor cs t t' p e r;
+      rowed = rows_laid floor cs t t' p e r
+    }
 
 pub returns : goal.returns
 returns c =
     let floor = c.args.floor in
     let cs = c.args.carriers.now in
-    let p = passed floor cs c.place-count.result c.place-count.ensures c.if-not-carriers-fit.ensures in (
+    let p = passed floor cs c.place_count.result c.place_count.ensures c.if-not-carriers_fit.ensures in (
       p,
       record {
         floor_is = refl;

@@ -7,8 +7,8 @@ use Rattle.plans.proofs.plans.ReadPlan.path.Goals as goal
 pub returns-then-number-self : goal.returns-then-number-self
 returns-then-number-self c = sym (ap (λ (r : Route). r.path) (get_or_past _ c.args.number nobody (omega (arith, carriers_count c.args.self.now))))
 
-pub slice-bounds-result-end-2 : goal.slice-bounds-result-end-2
-slice-bounds-result-end-2 c =
+pub slice_bounds-result-end-2 : goal.slice_bounds-result-end-2
+slice_bounds-result-end-2 c =
     let k : c.from-before.result + c.from.result ≤ length c.deref-2.result.now = omega (arith, c.row-row.ensures.within, c.args.self.now.tables.long, c.deref-2.ensures.len) in
     search rules
 

@@ -9,8 +9,8 @@ returns-then-place-self c =
     let f = c.args.self.now in
     sym (ap length (exits_beyond f.places None (legs_of f) c.args.place (rail_fit _ _ f.fit).order (omega arith)))
 
-pub overflow-sub-result : goal.overflow-sub-result
-overflow-sub-result c = omega (arith, below_next (legs_of c.args.self.now) c.args.place)
+pub overflow_sub-result : goal.overflow_sub-result
+overflow_sub-result c = omega (arith, below_next (legs_of c.args.self.now) c.args.place)
 
 pub returns : goal.returns
 returns c = omega (arith, below_next (legs_of c.args.self.now) c.args.place)

@@ -7,8 +7,8 @@ use Rattle.rail_floor.specs.Ordered.{rail_fit, exits_beyond, length-listed}
 use Rattle.rail_floor.proofs.Indexed.{below_le, below_next, from_nth, exits_nth}
 use Rattle.rail_floor.proofs.rail.RailFloor.leg.Goals as goal
 
-pub first-of-requires : goal.first-of-requires
-first-of-requires c =
+pub first_of-requires : goal.first_of-requires
+first_of-requires c =
     let f = c.args.self.now in
     elim (cases_lt c.args.place f.places) as (λ _. c.args.place ≤ f.places) [
       | inl q ↦ omega arith
