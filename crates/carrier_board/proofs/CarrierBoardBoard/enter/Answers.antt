@@ -71,5 +71,5 @@ invariant_of-self c =
     let n = cell_absent b.cells 0 p (sym c.in_default.ensures.first) in record {
       long = length-set b.cells j (Some p) ∙ b.long;
       within = all_below_set 1024 b.cells j (Some p) b.within (some_below 1024 p (omega arith));
-      apart = apart_set b.cells j p b.apart l n
+      apart = apart_set b.cells j p b.apart l n;
     }

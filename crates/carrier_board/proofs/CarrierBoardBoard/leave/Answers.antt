@@ -58,5 +58,5 @@ invariant_of-self c =
     let l : j < length b.cells = omega (arith, b.long, c.in-Some.ensures.found.0) in record {
       long = length-set b.cells j None ∙ b.long;
       within = all_below_set 1024 b.cells j None b.within (none_below 1024);
-      apart = apart_clear b.cells j b.apart l
+      apart = apart_clear b.cells j b.apart l;
     }

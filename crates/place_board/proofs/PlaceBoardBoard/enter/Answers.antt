@@ -40,5 +40,5 @@ invariant_of-self c =
       wide = length-set b.counts k _ ∙ b.wide;
       known = all_below_set 32 b.cells p (Some k) b.known (some_below 32 k n);
       few = few_enter b.cells p k l free (omega arith) b.few;
-      counted = counted_enter b.cells b.counts p k l free w n b.counted
+      counted = counted_enter b.cells b.counts p k l free w n b.counted;
     }

@@ -44,5 +44,5 @@ invariant_of-self c =
       wide = length-set b.counts k _ ∙ b.wide;
       known = all_below_set 32 b.cells p None b.known (none_below 32);
       few = few_leave b.cells p l b.few;
-      counted = counted_leave b.cells b.counts p k l mine w n b.counted
+      counted = counted_leave b.cells b.counts p k l mine w n b.counted;
     }

@@ -10,5 +10,5 @@ invariant_of-result c = record {
   wide = refl;
   known = all_below_none 32 512;
   few = λ k. omega (arith, held_none 512 k);
-  counted = λ k h. get_or-replicate 32 k 0 0 h ∙ sym (held_none 512 k)
+  counted = λ k h. get_or-replicate 32 k 0 0 h ∙ sym (held_none 512 k);
 }

@@ -36,7 +36,7 @@ invariant_of-result c =
       few = few c.place_count.result cs c.if-not-carriers_fit.ensures;
       fit = plan_fits floor cs t t' p e r;
       laid = entries_laid floor cs t t' p e r;
-      rowed = rows_laid floor cs t t' p e r
+      rowed = rows_laid floor cs t t' p e r;
     }
 
 pub returns : goal.returns
