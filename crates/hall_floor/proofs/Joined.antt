@@ -7,7 +7,8 @@ use Rattle.hall_floor.specs.Halls.{Hall, is_open, pitch, hall_length}
 use Rattle.hall_floor.specs.Laws.{SideBySide, OneBelowOther, Open, LegsJoinNeighbours, LengthsArePitches}
 use Rattle.hall_floor.specs.Fitting.{width_some}
 use Rattle.hall_floor.specs.Grid.{right_row, right_column, below_row, below_column, right_from, below_from}
-use Rattle.hall_floor.specs.Legs.{Lies, over_leads, leads_over, over_has, has_leads, lengths_led, lengths_pitch}
+use Rattle.hall_floor.specs.Legs.{Lies, lengths_led, lengths_pitch}
+use Rattle.hall_floor.proofs.Leading.{over_leads, leads_over, over_has, has_leads}
 
 open_parts : (h : Hall) (c : ℕ) → is_open h c ≡ true → Open h c
 unfolding is_open

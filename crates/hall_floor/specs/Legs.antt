@@ -1,13 +1,13 @@
 -- Where the legs over the sides of a cell lead.
-use Rattle.std.specs.Prelude.{◌≡◌, ℕ, zero, suc, ◌-◌, ◌%◌, ◌<◌, ◌≤◌, Bool, true, false, cond, ◌⊎◌, List, [], ◌∷◌, length, is_some, Some, None, Option, ◌==◌, ◌≢◌, nat_eq, nat_lt, slice_index, refl}
+use Rattle.std.specs.Prelude.{◌≡◌, ℕ, zero, suc, ◌-◌, ◌%◌, ◌<◌, ◌≤◌, Bool, true, false, cond, ◌⊎◌, List, [], ◌∷◌, length, is_some, Some, None, Option, ◌≢◌, nat_eq, nat_lt, slice_index, refl}
 use Rattle.std.proofs.Common.{sym, ap, inl, inr, arith}
 use Rattle.std.proofs.lemmas.Bool.Decides.{nat_tests}
-use Rattle.std.proofs.lemmas.Bool.{cases_Bool, cases_eq, eq-eqb, ne_eqb, le-ltb, or_right, and_parts, ltb-true, eqb-true}
+use Rattle.std.proofs.lemmas.Bool.{cases_Bool, cases_eq, eq-eqb, ne_eqb, le-ltb, and_parts, ltb-true, eqb-true}
 use Rattle.floors.specs.Exits.{has, Rises}
 use Rattle.hall_floor.specs.declared.sides.Side.{Side}
 use Rattle.hall_floor.specs.declared.sides.Side.TheVariants.{North, West, East, South}
 use Rattle.hall_floor.specs.Halls.{Hall, cells, is_open, beyond, if_open, over, sides, listed, exits_over, hall_exits, pitch, is_cell, length_over, hall_length}
-use Rattle.hall_floor.specs.Grid.{RightOf, Below, right_column, right_before}
+use Rattle.hall_floor.specs.Grid.{RightOf, Below, right_before}
 
 -- d is the cell beyond a side of c
 abbrev pub Lies : Hall → ℕ → ℕ → Side → Type 0
@@ -19,58 +19,40 @@ Lies h c d South = Below h.width d c
 none_some : {d : ℕ} → None ≢ Some d
 none_some e = let z : ◌≡◌ {A = ℕ} 0 1 = cc in omega arith
 
-beyond_lies : (h : Hall) → 1 ≤ h.width → (c d : ℕ) (side : Side) → beyond h c side ≡ Some d → Lies h c d side
-beyond_lies h some c d North e = grind (arith, nat_tests)
-beyond_lies h some c d West e =
-    elim (cases_eq (c % h.width) 0) as (λ _. RightOf h.width c d) [
-      | inl first ↦ let none : nat_eq (c % h.width) 0 ≡ true = eq-eqb _ _ first in absurd (none_some (rw none at e))
-      | inr inner ↦
-          let one : nat_eq (c % h.width) 0 ≡ false = ne_eqb _ _ inner in
-          let same : Some (c - 1) ≡ Some d = rw one at e in
-          let before : c - 1 ≡ d = cc in
-          rw before at (right_before h.width c some inner)
-    ]
-beyond_lies h some c d East e = (grind (arith, nat_tests), grind (arith, nat_tests))
-beyond_lies h some c d South e = grind (arith, nat_tests)
-
--- what a leg over a side tells
-pub record Leads (h : Hall) (c d : ℕ) (side : Side) : Type 0 where
-  pub from : is_open h c ≡ true
-  pub to : is_open h d ≡ true
-  pub lies : Lies h c d side
-
 -- what a test and then a choice gave, if it gave something
-picked : {X : Type 0} (b : Bool) (o : Option X) (x : X) → cond b o None ≡ Some x → (b ≡ true) × (o ≡ Some x)
+pub picked : {X : Type 0} (b : Bool) (o : Option X) (x : X) → cond b o None ≡ Some x → (b ≡ true) × (o ≡ Some x)
 picked true o x e = (refl, e)
 picked false o x e = let z : ◌≡◌ {A = ℕ} 0 1 = cc in absurd (omega arith)
 
-open_some : (h : Hall) (o : Option ℕ) (d : ℕ) → if_open h o ≡ Some d → (o ≡ Some d) × (is_open h d ≡ true)
+pub open_some : (h : Hall) (o : Option ℕ) (d : ℕ) → if_open h o ≡ Some d → (o ≡ Some d) × (is_open h d ≡ true)
 open_some h None d e = absurd (none_some e)
 open_some h (Some x) d e =
     let p = picked (is_open h x) (Some x) d e in
     let same : x ≡ d = cc in
     (p.1, rw same at p.0)
 
-pub over_leads : (h : Hall) → 1 ≤ h.width → (c d : ℕ) (side : Side) → over h c side ≡ Some d → Leads h c d side
-unfolding over
-over_leads h some c d side e =
-    let p = picked (is_open h c) (if_open h (beyond h c side)) d e in
-    let q = open_some h (beyond h c side) d p.1 in
-    record { from = p.0; to = q.1; lies = beyond_lies h some c d side q.0 }
+-- each leg leads to the cell beyond its side
+abbrev pub AllLie : Hall → Type 0
+AllLie h = (c d : ℕ) (side : Side) → over h c side ≡ Some d → Lies h c d side
 
-lies_beyond : (h : Hall) (c d : ℕ) (side : Side) → d < cells h → Lies h c d side → beyond h c side ≡ Some d
-lies_beyond h c d North inside l = grind (arith, nat_tests)
-lies_beyond h c d West inside l = let column = right_column h.width d c l in grind (arith, nat_tests)
-lies_beyond h c d East inside l = grind (arith, nat_tests)
-lies_beyond h c d South inside l = grind (arith, nat_tests)
-
-pub leads_over : (h : Hall) (c d : ℕ) (side : Side) → d < cells h → Leads h c d side → over h c side ≡ Some d
+pub over_lies : (h : Hall) → 1 ≤ h.width → AllLie h
 unfolding over
-leads_over h c d side inside l =
-    let from = l.from in
-    let to = l.to in
-    let b = lies_beyond h c d side inside l.lies in
-    rw (from, b, to)
+over_lies h some c d side e =
+    beyond_lies side (open_some h (beyond h c side) d (picked (is_open h c) (if_open h (beyond h c side)) d e).1).0
+  where
+    beyond_lies : (s : Side) → beyond h c s ≡ Some d → Lies h c d s
+    beyond_lies North k = grind (arith, nat_tests)
+    beyond_lies West k =
+        elim (cases_eq (c % h.width) 0) as (λ _. RightOf h.width c d) [
+          | inl first ↦ let none : nat_eq (c % h.width) 0 ≡ true = eq-eqb _ _ first in absurd (none_some (rw none at k))
+          | inr inner ↦
+              let one : nat_eq (c % h.width) 0 ≡ false = ne_eqb _ _ inner in
+              let same : Some (c - 1) ≡ Some d = rw one at k in
+              let before : c - 1 ≡ d = cc in
+              rw before at (right_before h.width c some inner)
+        ]
+    beyond_lies East k = (grind (arith, nat_tests), grind (arith, nat_tests))
+    beyond_lies South k = grind (arith, nat_tests)
 
 has_listed : (d : ℕ) (o : Option ℕ) (xs : List ℕ) → has d (listed o xs) ≡ true → (o ≡ Some d) ⊎ (has d xs ≡ true)
 unfolding has
@@ -81,33 +63,11 @@ has_listed d (Some x) xs e =
       | inr apart ↦ let n : nat_eq d x ≡ false = ne_eqb _ _ apart in inr (rw n at e)
     ]
 
-has_over : (h : Hall) (c d : ℕ) (ss : List Side) → has d (exits_over h c ss) ≡ true → (side : Side) × (over h c side ≡ Some d)
+pub has_over : (h : Hall) (c d : ℕ) (ss : List Side) → has d (exits_over h c ss) ≡ true → (side : Side) × (over h c side ≡ Some d)
 unfolding has
 has_over h c d [] e = let z : ◌≡◌ {A = ℕ} 0 1 = cc in absurd (omega arith)
 has_over h c d (side ∷ ss) e =
     elim (has_listed d (over h c side) (exits_over h c ss) e) [ inl here ↦ (side, here) | inr more ↦ has_over h c d ss more ]
-
-has_here : (h : Hall) (c d : ℕ) (side : Side) (ss : List Side) → over h c side ≡ Some d → has d (exits_over h c (side ∷ ss)) ≡ true
-unfolding has
-has_here h c d side ss e = let same : nat_eq d d ≡ true = eq-eqb d d refl in rw (e, same)
-
-has_more : (h : Hall) (c d : ℕ) (side : Side) (ss : List Side) → has d (exits_over h c ss) ≡ true → has d (exits_over h c (side ∷ ss)) ≡ true
-unfolding has
-has_more h c d side ss e = listed_more (over h c side)
-  where
-    listed_more : (o : Option ℕ) → has d (listed o (exits_over h c ss)) ≡ true
-    listed_more None = e
-    listed_more (Some x) = or_right (d == x) (has d (exits_over h c ss)) e
-
-pub over_has : (h : Hall) (c d : ℕ) (side : Side) → over h c side ≡ Some d → has d (hall_exits h c) ≡ true
-unfolding hall_exits
-over_has h c d North e = has_here h c d North (West ∷ East ∷ South ∷ []) e
-over_has h c d West e = has_more h c d North (West ∷ East ∷ South ∷ []) (has_here h c d West (East ∷ South ∷ []) e)
-over_has h c d East e =
-    has_more h c d North (West ∷ East ∷ South ∷ []) (has_more h c d West (East ∷ South ∷ []) (has_here h c d East (South ∷ []) e))
-over_has h c d South e =
-    has_more h c d North (West ∷ East ∷ South ∷ []) (has_more h c d West (East ∷ South ∷ []) (has_more h c d East (South ∷ [])
-    (has_here h c d South [] e)))
 
 -- a place beyond the hall has no exits
 pub exits_beyond : (h : Hall) (c : ℕ) → cells h ≤ c → hall_exits h c ≡ []
@@ -135,9 +95,9 @@ rises_listed (Some x) ys head tail i zero l k = absurd (omega arith)
 rises_listed (Some x) ys head tail zero (suc j) l k = head x refl j (omega arith)
 rises_listed (Some x) ys head tail (suc i) (suc j) l k = tail i j (omega arith) (omega arith)
 
-pub exits_rise : (h : Hall) → 1 ≤ h.width → (c : ℕ) → Rises (hall_exits h c)
+pub exits_rise : (h : Hall) → 1 ≤ h.width → AllLie h → (c : ℕ) → Rises (hall_exits h c)
 unfolding hall_exits
-exits_rise h some c =
+exits_rise h some lie c =
     rises_listed (over h c North) (exits_over h c (West ∷ East ∷ South ∷ []))
     (λ n en. above_listed n (over h c West) (exits_over h c (East ∷ South ∷ [])) (λ w ew. omega (arith, north n en, west w ew))
     (above_listed n (over h c East) (exits_over h c (South ∷ [])) (λ e ee. omega (arith, north n en, east e ee))
@@ -150,24 +110,27 @@ exits_rise h some c =
     (rises_listed (over h c South) [] (λ s es. above_none s) rises_none)))
   where
     north : (d : ℕ) → over h c North ≡ Some d → Below h.width c d
-    north d e = (over_leads h some c d North e).lies
+    north d e = lie c d North e
 
     west : (d : ℕ) → over h c West ≡ Some d → RightOf h.width c d
-    west d e = (over_leads h some c d West e).lies
+    west d e = lie c d West e
 
     east : (d : ℕ) → over h c East ≡ Some d → RightOf h.width d c
-    east d e = (over_leads h some c d East e).lies
+    east d e = lie c d East e
 
     south : (d : ℕ) → over h c South ≡ Some d → Below h.width d c
-    south d e = (over_leads h some c d South e).lies
+    south d e = lie c d South e
 
 pub open_inside : (h : Hall) (c : ℕ) → is_open h c ≡ true → c < cells h
 unfolding is_open
 open_inside h c e = ltb-true c (cells h) (and_parts _ _ e).0
 
-pub has_leads : (h : Hall) → 1 ≤ h.width → (c d : ℕ) → has d (hall_exits h c) ≡ true → (side : Side) × Leads h c d side
-unfolding hall_exits
-has_leads h some c d e = let p = has_over h c d sides e in (p.0, over_leads h some c d p.0 p.1)
+-- the exits of a place are places of the hall
+pub exits_inside : (h : Hall) (c d : ℕ) → has d (hall_exits h c) ≡ true → d < cells h
+unfolding hall_exits over
+exits_inside h c d e =
+    let p = has_over h c d sides e in
+    open_inside h d (open_some h (beyond h c p.0) d (picked (is_open h c) (if_open h (beyond h c p.0)) d p.1).1).1
 
 lies_away : (h : Hall) → 1 ≤ h.width → (c : ℕ) (side : Side) → Lies h c c side → ⊥
 lies_away h some c North l = omega arith
@@ -175,10 +138,11 @@ lies_away h some c West l = omega arith
 lies_away h some c East l = omega arith
 lies_away h some c South l = omega arith
 
-pub exits_away : (h : Hall) → 1 ≤ h.width → (c : ℕ) → has c (hall_exits h c) ≡ false
-exits_away h some c =
-    elim (cases_Bool (has c (hall_exits h c))) [
-      | inl e ↦ let p = has_leads h some c c e in absurd (lies_away h some c p.0 p.1.lies)
+pub exits_away : (h : Hall) → 1 ≤ h.width → AllLie h → (c : ℕ) → has c (hall_exits h c) ≡ false
+unfolding hall_exits
+exits_away h some lie c =
+    elim (cases_Bool (has c (exits_over h c sides))) [
+      | inl e ↦ let p = has_over h c c sides e in absurd (lies_away h some c p.0 (lie c c p.0 p.1))
       | inr e ↦ e
     ]
 

@@ -2,7 +2,7 @@ ghost use Rattle.std.specs.Prelude.{◌≡◌, ◌<◌};
 ghost use Rattle.hall_floor.specs.Halls.{cells, is_open, beyond as cellBeyond, over as legOver, hall_exits, pitch as pitchOver, hall_length};
 ghost use Rattle.hall_floor.specs.Held.{hall_of};
 ghost use Rattle.hall_floor.specs.Fitting.{cells_some, cells_most, width_some, pitch_some, pitch_most};
-ghost use Rattle.hall_floor.specs.Legs.{exits_rise, open_inside, has_leads, exits_away, exits_beyond, lengths_led, lengths_pitch};
+ghost use Rattle.hall_floor.specs.Legs.{over_lies, exits_rise, exits_inside, exits_away, exits_beyond, lengths_led, lengths_pitch};
 ghost use Rattle.std.proofs.Common.{arith};
 
 use crate::hall::HallFloor;
@@ -87,11 +87,15 @@ impl Floor for HallFloor {
 
     ghost most = { λ f. cells_most (hall_of f) f.fit };
 
-    ghost rising = { λ f p. exits_rise (hall_of f) (width_some (hall_of f) f.fit) p };
+    ghost rising = { λ f p.
+        let some = width_some (hall_of f) f.fit in
+        exits_rise (hall_of f) some (over_lies (hall_of f) some) p };
 
-    ghost inside = { λ f p q e. open_inside (hall_of f) q (has_leads (hall_of f) (width_some (hall_of f) f.fit) p q e).1.to };
+    ghost inside = { λ f p q. exits_inside (hall_of f) p q };
 
-    ghost away = { λ f p. exits_away (hall_of f) (width_some (hall_of f) f.fit) p };
+    ghost away = { λ f p.
+        let some = width_some (hall_of f) f.fit in
+        exits_away (hall_of f) some (over_lies (hall_of f) some) p };
 
     ghost beyond = { λ f p outside. exits_beyond (hall_of f) p outside };
 

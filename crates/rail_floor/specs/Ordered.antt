@@ -1,5 +1,5 @@
 -- Legs in order: where they lead, and how long they are.
-use Rattle.std.specs.Prelude.{◌≡◌, ℕ, zero, suc, ◌<◌, ◌≤◌, true, false, ◌&&◌, ◌⊎◌, List, [], ◌∷◌, length, is_some, Some, None, Option, ◌≢◌, nat_eq, slice_index, slice_index_or, refl}
+use Rattle.std.specs.Prelude.{◌≡◌, ℕ, zero, suc, ◌<◌, ◌≤◌, true, false, cond, ◌&&◌, ◌⊎◌, List, [], ◌∷◌, length, is_some, Some, None, Option, ◌≢◌, ◌==◌, nat_eq, slice_index, slice_index_or, refl}
 use Rattle.std.proofs.Common.{ap, inl, inr, arith}
 use Rattle.std.proofs.lemmas.Bool.Decides.{nat_tests}
 use Rattle.std.proofs.lemmas.Bool.{and_parts, cases_eq, eq-eqb, ne_eqb}
@@ -90,42 +90,44 @@ exits_beyond n b (l ∷ ls) p h k =
     let r = exits_beyond n (Some l) ls p (tail_fits n b l ls h) k in
     grind (arith, nat_tests)
 
-pub exits_none : (n : ℕ) (b : Leg) (ls : List Leg) (p : ℕ) → fits_legs n (Some b) ls ≡ true → p < b.from → exits_of ls p ≡ []
-unfolding exits_of
-exits_none n b [] p h k = refl
-exits_none n b (l ∷ ls) p h k =
-    let o = next_before n b l (head_fits n (Some b) l ls h) in
-    let r = exits_none n l ls p (tail_fits n (Some b) l ls h) (omega (arith, o.from)) in
-    grind (arith, nat_tests)
+-- what the exits of the place p are, of legs that stand behind the leg b, if there is one
+pub record Sorted (b : Option Leg) (p : ℕ) (xs : List ℕ) : Type 0 where
+  pub rises : Rises xs
+  pub none : (x : Leg) → b ≡ Some x → p < x.from → xs ≡ []
+  pub above : (x : Leg) → b ≡ Some x → x.from ≡ p → (i : ℕ) → i < length xs → x.to < slice_index xs i
+
+sorted_more : (n : ℕ) (b : Option Leg) (l : Leg) (p : ℕ) (xs : List ℕ) → fits_leg n b l ≡ true → Sorted (Some l) p xs → Sorted b p (cond (l.from == p) (l.to ∷ xs) xs)
+sorted_more n b l p xs h s = go (cases_eq l.from p)
+  where
+    before : (x : Leg) → b ≡ Some x → Before x l
+    before x e = next_before n x l (rw e at h)
+
+    rising : l.from ≡ p → Rises (l.to ∷ xs)
+    rising same i zero a k = absurd (omega arith)
+    rising same zero (suc j) a k = s.above l refl same j (omega arith)
+    rising same (suc i) (suc j) a k = s.rises i j (omega arith) (omega arith)
+
+    over : l.from ≡ p → (x : Leg) → b ≡ Some x → x.from ≡ p → (i : ℕ) → i < suc (length xs) → x.to < slice_index (l.to ∷ xs) i
+    over same x e q zero k = (before x e).to (omega arith)
+    over same x e q (suc i) k = omega (arith, (before x e).to (omega arith), s.above l refl same i (omega arith))
+
+    go : (l.from ≡ p) ⊎ (l.from ≢ p) → Sorted b p (cond (l.from == p) (l.to ∷ xs) xs)
+    go (inl same) =
+        let t : nat_eq l.from p ≡ true = eq-eqb _ _ same in
+        rw t (record { rises = rising same; none = λ x e k. absurd (omega (arith, (before x e).from)); above = over same })
+    go (inr apart) =
+        let t : nat_eq l.from p ≡ false = ne_eqb _ _ apart in
+        rw t (record {
+          rises = s.rises;
+          none = λ x e k. s.none l refl (omega (arith, (before x e).from));
+          above = λ x e q i k. let z : xs ≡ [] = s.none l refl (omega (arith, (before x e).from)) in absurd (omega (arith, ap length z))
+        })
 
 -- the exits of a place rise
-pub exits_above : (n : ℕ) (b : Leg) (ls : List Leg) (p i : ℕ) → fits_legs n (Some b) ls ≡ true → b.from ≡ p → i < length (exits_of ls p) → b.to < slice_index (exits_of ls p) i
+pub exits_sorted : (n : ℕ) (b : Option Leg) (ls : List Leg) (p : ℕ) → fits_legs n b ls ≡ true → Sorted b p (exits_of ls p)
 unfolding exits_of
-exits_above n b [] p i h q k = omega arith
-exits_above n b (l ∷ ls) p zero h q k =
-    let o = next_before n b l (head_fits n (Some b) l ls h) in
-    let z : p < l.from → exits_of ls p ≡ [] = exits_none n l ls p (tail_fits n (Some b) l ls h) in
-    grind (arith, nat_tests)
-exits_above n b (l ∷ ls) p (suc i) h q k =
-    let o = next_before n b l (head_fits n (Some b) l ls h) in
-    let z : p < l.from → exits_of ls p ≡ [] = exits_none n l ls p (tail_fits n (Some b) l ls h) in
-    let r : l.from ≡ p → i < length (exits_of ls p) → l.to < slice_index_or (exits_of ls p) i 0 = exits_above n l ls p i (tail_fits n (Some b) l ls h) in
-    grind (arith, nat_tests)
-
-pub exits_rise : (n : ℕ) (b : Option Leg) (ls : List Leg) (p : ℕ) → fits_legs n b ls ≡ true → Rises (exits_of ls p)
-unfolding exits_of
-exits_rise n b [] p h i j a k = omega arith
-exits_rise n b (l ∷ ls) p h i zero a k = absurd (omega arith)
-exits_rise n b (l ∷ ls) p h zero (suc j) a k =
-    let t = tail_fits n b l ls h in
-    let r : l.from ≡ p → j < length (exits_of ls p) → l.to < slice_index_or (exits_of ls p) j 0 = exits_above n l ls p j t in
-    let m : suc j < length (exits_of ls p) → slice_index (exits_of ls p) 0 < slice_index_or (exits_of ls p) (suc j) 0 = exits_rise n (Some l) ls p t 0 (suc j) a in
-    grind (arith, nat_tests)
-exits_rise n b (l ∷ ls) p h (suc i) (suc j) a k =
-    let t = tail_fits n b l ls h in
-    let r : j < length (exits_of ls p) → slice_index (exits_of ls p) i < slice_index_or (exits_of ls p) j 0 = exits_rise n (Some l) ls p t i j (omega arith) in
-    let m : suc j < length (exits_of ls p) → slice_index (exits_of ls p) (suc i) < slice_index_or (exits_of ls p) (suc j) 0 = exits_rise n (Some l) ls p t (suc i) (suc j) a in
-    grind (arith, nat_tests)
+exits_sorted n b [] p h = record { rises = λ i j a k. omega arith; none = λ x e k. refl; above = λ x e q i k. absurd (omega arith) }
+exits_sorted n b (l ∷ ls) p h = sorted_more n b l p (exits_of ls p) (head_fits n b l ls h) (exits_sorted n (Some l) ls p (tail_fits n b l ls h))
 
 -- there is a length exactly where a leg leads, of 1 to 65,535
 pub length-led : (ls : List Leg) (p q : ℕ) → is_some (length_of ls p q) ≡ has q (exits_of ls p)

@@ -4,7 +4,7 @@ ghost use Rattle.std.specs.Prelude.{◌≡◌, ◌<◌, ◌≤◌, length, Some,
 ghost use Rattle.std.specs.List.{slice_get};
 ghost use Rattle.rail_floor.specs.Rails.{below, exits_of, length_of};
 ghost use Rattle.rail_floor.specs.Held.{places_of, legs_of};
-ghost use Rattle.rail_floor.specs.Ordered.{rail_fit, exits_rise, exits_inside, exits_away, exits_beyond, length-led, length_long, length_short};
+ghost use Rattle.rail_floor.specs.Ordered.{rail_fit, exits_sorted, exits_inside, exits_away, exits_beyond, length-led, length_long, length_short};
 
 use crate::legs::Leg;
 use crate::rail::RailFloor;
@@ -38,7 +38,7 @@ impl Floor for RailFloor {
 
     ghost most = { λ f. (rail_fit _ _ f.fit).most };
 
-    ghost rising = { λ f p. exits_rise f.places None (legs_of f) p (rail_fit _ _ f.fit).order };
+    ghost rising = { λ f p. (exits_sorted f.places None (legs_of f) p (rail_fit _ _ f.fit).order).rises };
 
     ghost inside = { λ f p q. exits_inside f.places None (legs_of f) p q (rail_fit _ _ f.fit).order };
 

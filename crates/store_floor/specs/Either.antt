@@ -23,16 +23,16 @@ places_most (rails n legs) fit = (rail.rail_fit n legs fit).most
 places_most (cellular h) fit = hall.cells_most h fit
 
 pub exits_rise : (l : Layout) → fits_layout l ≡ true → (p : ℕ) → Rises (exits_from l p)
-exits_rise (rails n legs) fit p = rail.exits_rise n None legs p (rail.rail_fit n legs fit).order
-exits_rise (cellular h) fit p = hall_legs.exits_rise h (hall.width_some h fit) p
+exits_rise (rails n legs) fit p = (rail.exits_sorted n None legs p (rail.rail_fit n legs fit).order).rises
+exits_rise (cellular h) fit p = let some = hall.width_some h fit in hall_legs.exits_rise h some (hall_legs.over_lies h some) p
 
 pub exits_inside : (l : Layout) → fits_layout l ≡ true → (p q : ℕ) → has q (exits_from l p) ≡ true → q < places l
 exits_inside (rails n legs) fit p q e = rail.exits_inside n None legs p q (rail.rail_fit n legs fit).order e
-exits_inside (cellular h) fit p q e = hall_legs.open_inside h q (hall_legs.has_leads h (hall.width_some h fit) p q e).1.to
+exits_inside (cellular h) fit p q e = hall_legs.exits_inside h p q e
 
 pub exits_away : (l : Layout) → fits_layout l ≡ true → (p : ℕ) → has p (exits_from l p) ≡ false
 exits_away (rails n legs) fit p = rail.exits_away n None legs p (rail.rail_fit n legs fit).order
-exits_away (cellular h) fit p = hall_legs.exits_away h (hall.width_some h fit) p
+exits_away (cellular h) fit p = let some = hall.width_some h fit in hall_legs.exits_away h some (hall_legs.over_lies h some) p
 
 pub exits_beyond : (l : Layout) → fits_layout l ≡ true → (p : ℕ) → places l ≤ p → exits_from l p ≡ []
 exits_beyond (rails n legs) fit p outside = rail.exits_beyond n None legs p (rail.rail_fit n legs fit).order outside
