@@ -1,5 +1,5 @@
 -- Legs in order: where they lead, and how long they are.
-use Rattle.std.specs.Prelude.{◌≡◌, ℕ, zero, suc, ◌<◌, ◌≤◌, true, false, cond, ◌&&◌, ◌⊎◌, List, [], ◌∷◌, length, is_some, Some, None, Option, ◌≢◌, ◌==◌, nat_eq, slice_index, slice_index_or, refl}
+use Rattle.std.specs.Prelude.{◌≡◌, ℕ, zero, suc, ◌<◌, ◌≤◌, true, false, cond, ◌&&◌, ◌⊎◌, List, [], ◌∷◌, length, is_some, Some, None, Option, ◌≢◌, ◌==◌, nat_eq, slice_index, refl}
 use Rattle.std.proofs.Common.{ap, inl, inr, arith}
 use Rattle.std.proofs.lemmas.Bool.Decides.{nat_tests}
 use Rattle.std.proofs.lemmas.Bool.{and_parts, cases_eq, eq-eqb, ne_eqb}
@@ -120,7 +120,7 @@ sorted_more n b l p xs h s = go (cases_eq l.from p)
         rw t (record {
           rises = s.rises;
           none = λ x e k. s.none l refl (omega (arith, (before x e).from));
-          above = λ x e q i k. let z : xs ≡ [] = s.none l refl (omega (arith, (before x e).from)) in absurd (omega (arith, ap length z))
+          above = λ x e q i k. let z : xs ≡ [] = s.none l refl (omega (arith, (before x e).from)) in absurd (omega (arith, ap length z));
         })
 
 -- the exits of a place rise
