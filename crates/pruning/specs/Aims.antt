@@ -1,5 +1,4 @@
 -- What an aim says.
-use Rattle.std.specs.Prelude.{ℕ}
 use Rattle.plans.specs.Plan.{Plan}
 use Rattle.plans.specs.Held.{plan_of}
 use Rattle.pruning.specs.declared.aim.Aim.{Aim}
