@@ -1,5 +1,5 @@
 ghost use Rattle.std.specs.Prelude.{◌≡◌, ◌<◌};
-ghost use Rattle.hall_floor.specs.Halls.{cells, is_open, beyond as cellBeyond, over as legOver, hall_exits, pitch as pitchOver, hall_length};
+ghost use Rattle.hall_floor.specs.Halls.{cells, is_open, beyond as cell_beyond, over as leg_over, hall_exits, pitch as pitch_over, hall_length};
 ghost use Rattle.hall_floor.specs.Held.{hall_of};
 ghost use Rattle.hall_floor.specs.Fitting.{cells_some, cells_most, width_some, pitch_some, pitch_most};
 ghost use Rattle.hall_floor.specs.Legs.{over_lies, exits_rise, exits_inside, exits_away, exits_beyond, lengths_led, lengths_pitch};
@@ -26,7 +26,7 @@ impl HallFloor {
     /// The cell beyond a side of a cell, if there is one.
     fn beyond(&self, place: u16, side: Side) -> Option<u16>
         requires { place < cells (hall_of self.now) }
-        ensures { result ≡ cellBeyond (hall_of self.now) place side }
+        ensures { result ≡ cell_beyond (hall_of self.now) place side }
     {
         match side {
             Side::North => if place >= self.width {
@@ -54,7 +54,7 @@ impl HallFloor {
 
     /// Where the leg over a side of a cell leads, if there is one.
     fn over(&self, place: u16, side: Side) -> Option<u16>
-        ensures { result ≡ legOver (hall_of self.now) place side }
+        ensures { result ≡ leg_over (hall_of self.now) place side }
     {
         if !self.is_open(place) {
             return None;
@@ -67,7 +67,7 @@ impl HallFloor {
 
     /// The pitch between a cell and the cell beyond a side of it.
     fn pitch(&self, side: Side) -> u16
-        ensures { result ≡ pitchOver (hall_of self.now) side }
+        ensures { result ≡ pitch_over (hall_of self.now) side }
     {
         match side {
             Side::North => self.down,

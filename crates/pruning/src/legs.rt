@@ -3,7 +3,6 @@
 ghost use Rattle.std.specs.Prelude.{◌≡◌};
 ghost use Rattle.plans.specs.Held.{plan_of};
 ghost use Rattle.laws.specs.Chains.{end};
-ghost use Rattle.pruning.specs.Back.{height as heightOf};
 
 use crate::dropped::Dropped;
 use laws::pairs::Pair;

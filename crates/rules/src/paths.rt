@@ -2,7 +2,7 @@
 
 ghost use Rattle.std.specs.Prelude.{◌≡◌, ◌<◌};
 ghost use Rattle.plans.specs.Held.{plan_of};
-ghost use Rattle.laws.specs.Paths.{start as start_of, goal as goalOf, entry as entry_of, last as last_of};
+ghost use Rattle.laws.specs.Paths.{start as start_of, goal as goal_of, entry as entry_of, last as last_of};
 
 use plans::plans::ReadPlan;
 
@@ -15,7 +15,7 @@ pub fn start(plan: &ReadPlan, carrier: u8) -> u16
 
 /// Where a carrier is to go.
 pub fn goal(plan: &ReadPlan, carrier: u8) -> u16
-    ensures { result ≡ goalOf (plan_of plan.now) carrier }
+    ensures { result ≡ goal_of (plan_of plan.now) carrier }
 {
     plan.goal(carrier).unwrap_or(0)
 }
