@@ -6,7 +6,8 @@ use Rattle.std.proofs.lemmas.Bool.{cases_Bool, cases_eq, eq-eqb, ne_eqb, le-ltb,
 use Rattle.floors.specs.Exits.{has, Rises}
 use Rattle.hall_floor.specs.declared.sides.Side.{Side}
 use Rattle.hall_floor.specs.declared.sides.Side.TheVariants.{North, West, East, South}
-use Rattle.hall_floor.specs.Halls.{Hall, cells, is_open, beyond, if_open, over, sides, listed, exits_over, hall_exits, pitch, is_cell, length_over, hall_length}
+use Rattle.hall_floor.specs.Halls.{Hall, cells, is_open, beyond, if_open, over, sides, listed, exits_over, hall_exits, pitch, is_cell, length_over, hall_length, fits_hall}
+use Rattle.hall_floor.specs.Fitting.{pitch_some, pitch_most}
 use Rattle.hall_floor.specs.Grid.{RightOf, Below, right_before}
 
 -- d is the cell beyond a side of c
@@ -180,3 +181,10 @@ length_pitch h c d n (side ∷ ss) e =
 pub lengths_pitch : (h : Hall) (c d n : ℕ) → hall_length h c d ≡ Some n → (side : Side) × (over h c side ≡ Some d) × (pitch h side ≡ n)
 unfolding hall_length
 lengths_pitch h c d n e = length_pitch h c d n sides e
+
+-- a length is 1 to 65,535
+pub lengths_some : (h : Hall) → fits_hall h ≡ true → (c d n : ℕ) → hall_length h c d ≡ Some n → 1 ≤ n
+lengths_some h fit c d n e = let s = lengths_pitch h c d n e in omega (arith, s.2, pitch_some h fit s.0)
+
+pub lengths_most : (h : Hall) → fits_hall h ≡ true → (c d n : ℕ) → hall_length h c d ≡ Some n → n ≤ 65535
+lengths_most h fit c d n e = let s = lengths_pitch h c d n e in omega (arith, s.2, pitch_most h fit s.0)

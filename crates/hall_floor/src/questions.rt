@@ -1,9 +1,8 @@
 ghost use Rattle.std.specs.Prelude.{◌≡◌, ◌<◌};
 ghost use Rattle.hall_floor.specs.Halls.{cells, is_open, beyond as cell_beyond, over as leg_over, hall_exits, pitch as pitch_over, hall_length};
 ghost use Rattle.hall_floor.specs.Held.{hall_of};
-ghost use Rattle.hall_floor.specs.Fitting.{cells_some, cells_most, width_some, pitch_some, pitch_most};
-ghost use Rattle.hall_floor.specs.Legs.{over_lies, exits_rise, exits_inside, exits_away, exits_beyond, lengths_led, lengths_pitch};
-ghost use Rattle.std.proofs.Common.{arith};
+ghost use Rattle.hall_floor.specs.Fitting.{cells_some, cells_most, width_some};
+ghost use Rattle.hall_floor.specs.Legs.{over_lies, exits_rise, exits_inside, exits_away, exits_beyond, lengths_led, lengths_some, lengths_most};
 
 use crate::hall::HallFloor;
 use crate::sides::Side;
@@ -88,14 +87,14 @@ impl Floor for HallFloor {
     ghost most = { λ f. cells_most (hall_of f) f.fit };
 
     ghost rising = { λ f p.
-        let some = width_some (hall_of f) f.fit in
-        exits_rise (hall_of f) some (over_lies (hall_of f) some) p };
+        let wide = width_some (hall_of f) f.fit in
+        exits_rise (hall_of f) wide (over_lies (hall_of f) wide) p };
 
     ghost inside = { λ f p q. exits_inside (hall_of f) p q };
 
     ghost away = { λ f p.
-        let some = width_some (hall_of f) f.fit in
-        exits_away (hall_of f) some (over_lies (hall_of f) some) p };
+        let wide = width_some (hall_of f) f.fit in
+        exits_away (hall_of f) wide (over_lies (hall_of f) wide) p };
 
     ghost beyond = { λ f p outside. exits_beyond (hall_of f) p outside };
 
@@ -132,13 +131,9 @@ impl Measured for HallFloor {
 
     ghost led = { λ f p q. lengths_led (hall_of f) p q };
 
-    ghost long = { λ f p q d e.
-        let s = lengths_pitch (hall_of f) p q d e in
-        omega (arith, s.2, pitch_some (hall_of f) f.fit s.0) };
+    ghost long = { λ f. lengths_some (hall_of f) f.fit };
 
-    ghost short = { λ f p q d e.
-        let s = lengths_pitch (hall_of f) p q d e in
-        omega (arith, s.2, pitch_most (hall_of f) f.fit s.0) };
+    ghost short = { λ f. lengths_most (hall_of f) f.fit };
 
     fn length(&self, from: u16, to: u16) -> Option<u16> {
         for side in SIDES {

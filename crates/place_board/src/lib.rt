@@ -4,7 +4,6 @@
 ghost use Rattle.std.specs.Prelude.{◌≡◌, length};
 ghost use Rattle.boards.specs.Holders.{Known, AtMostTwo};
 ghost use Rattle.place_board.specs.Counts.{Counted};
-ghost use Rattle.std.proofs.Common.{rules, arith};
 
 use boards::board::{Board, CARRIERS};
 use boards::faults::BoardFault;
@@ -31,11 +30,11 @@ impl Board for PlaceBoard {
 
     ghost holders = { λ b. b.cells };
 
-    ghost sized = { first_of (Prim.search rules, Prim.grind (arith, Self.row.coded.inj)) };
+    ghost sized = { λ b. b.long };
 
-    ghost known = { first_of (Prim.search rules, Prim.grind (arith, Self.row.coded.inj)) };
+    ghost known = { λ b. b.known };
 
-    ghost few = { first_of (Prim.search rules, Prim.grind (arith, Self.row.coded.inj)) };
+    ghost few = { λ b. b.few };
 
     fn place_count() -> u16 {
         Self::PLACES

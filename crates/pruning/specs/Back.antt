@@ -22,7 +22,7 @@ scope low d = record { low = low; dropped = d }
 pub record Open (p : Plan) (marks : List ℕ) (s : Scope) (u c t : ℕ) : Type 0 where
   pub carrier : Carrier p c
   pub above : s.low < c
-  pub free : slice_index_or marks c 0 ≡ 0
+  pub free : slice_index marks c ≡ 0
   pub inside : HasLeg p c t
   pub begins : entry p c t ≡ u
   pub live : height s.dropped c t ≡ 0

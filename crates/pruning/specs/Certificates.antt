@@ -14,7 +14,7 @@ Live p d = (x : Pair) (xs : List Pair) → CircularWait p (x ∷ xs) → height 
 -- Of the legs at each place: `low` is their least height, `who` a carrier that has it, `next` the least of the other carriers.
 -- A leg of carrier c at the place u, of height h, has been counted.
 pub record Counts (low who next : List ℕ) (u c h : ℕ) : Type 0 where
-  pub least : slice_index_or low u 0 ≤ h
+  pub least : slice_index low u ≤ h
   pub others : (slice_index who u ≢ c) → slice_index next u ≤ h
 
 -- the least height of the legs at u of other carriers than c
@@ -40,12 +40,12 @@ step_of counts c = cond (slice_index counts c == 0) 1 0
 -- What is checked of numbers at places: 0 at home, and no open leg leads to a place that is lower by more than its carrier's step, if it
 -- begins and ends near enough for `left` legs.
 pub record Graded (p : Plan) (marks ahead near : List ℕ) (left : ℕ) (counts : List ℕ) (s : Scope) (home : ℕ) (back : List ℕ) : Type 0 where
-  pub at_home : slice_index_or back home 0 ≡ 0
+  pub at_home : slice_index back home ≡ 0
   pub even : (c t : ℕ) → Open p marks s (entry p c t) c t → slice_index ahead (entry p c t) + slice_index near (entry p c (suc t)) < left → slice_index back (entry p c t) ≤ slice_index back (entry p c (suc t)) + step_of counts c
 
 -- The same the other way: 0 at the place `from`, and no open leg leads to a place that is higher by more than one.
 pub record Ahead (p : Plan) (marks : List ℕ) (s : Scope) (from : ℕ) (ahead : List ℕ) : Type 0 where
-  pub at_start : slice_index_or ahead from 0 ≡ 0
+  pub at_start : slice_index ahead from ≡ 0
   pub even : (c t : ℕ) → Open p marks s (entry p c t) c t → slice_index ahead (entry p c (suc t)) ≤ slice_index ahead (entry p c t) + 1
 
 -- leg t of k and leg t of c are both dropped, or both kept and between the same places

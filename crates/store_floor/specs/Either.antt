@@ -1,6 +1,5 @@
 -- What holds of the layout of either kind of floor, by what holds of each kind.
 use Rattle.std.specs.Prelude.{◌≡◌, ℕ, ◌<◌, ◌≤◌, true, false, [], is_some, Some, None}
-use Rattle.std.proofs.Common.{arith}
 use Rattle.floors.specs.Exits.{Rises, has}
 use Rattle.rail_floor.specs.Ordered as rail
 use Rattle.hall_floor.specs.Fitting as hall
@@ -44,10 +43,8 @@ lengths_led (cellular h) p q = hall_legs.lengths_led h p q
 
 pub lengths_some : (l : Layout) → fits_layout l ≡ true → (p q d : ℕ) → leg_length l p q ≡ Some d → 1 ≤ d
 lengths_some (rails n legs) fit p q d e = rail.length_long n None legs p q d (rail.rail_fit n legs fit).order e
-lengths_some (cellular h) fit p q d e =
-    let s = hall_legs.lengths_pitch h p q d e in omega (arith, s.2, hall.pitch_some h fit s.0)
+lengths_some (cellular h) fit p q d e = hall_legs.lengths_some h fit p q d e
 
 pub lengths_most : (l : Layout) → fits_layout l ≡ true → (p q d : ℕ) → leg_length l p q ≡ Some d → d ≤ 65535
 lengths_most (rails n legs) fit p q d e = rail.length_short n None legs p q d (rail.rail_fit n legs fit).order e
-lengths_most (cellular h) fit p q d e =
-    let s = hall_legs.lengths_pitch h p q d e in omega (arith, s.2, hall.pitch_most h fit s.0)
+lengths_most (cellular h) fit p q d e = hall_legs.lengths_most h fit p q d e
