@@ -3,7 +3,7 @@
 
     python3 /opt/rattle/port/port.py && python3 tools/respell.py        at the top
 
-A word that stands for a type or a fact is in upper camel case, all others are in snake case. What Rattle makes (the goals of a proof, and what a goal
+A word that stands for a type or a fact is in upper camel case, all others are in snake case, with a dash where it joins the names of two definitions. What Rattle makes (the goals of a proof, and what a goal
 hands over) and what the code of src/ calls its functions keeps its name. Rewritten are specs/ and proofs/, the clauses and ghost items of src/, the
 lines of must-fail edits, and words between backticks in README.md and docs/ (but not in CHANGES.md and PORT.md, which tell of the past).
 """
