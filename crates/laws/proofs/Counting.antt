@@ -14,7 +14,7 @@ use Rattle.laws.specs.Paths.{carriers, Carrier, last, sum_over, legs}
 use Rattle.laws.specs.Runs.{State, motion_of, Turned, turned, to_go, distance, opened}
 use Rattle.laws.specs.Strings.{called, after, replies, reached, turn_departed, turn_arrived, of_turn, tally_for, departures, arrivals, by_counts}
 use Rattle.laws.specs.Laws.{Opens, does}
-use Rattle.laws.proofs.Turning.{get_d_set, Kept, departed, arrived, Outcome, outcome}
+use Rattle.laws.proofs.Turning.{get_or-set, Kept, departed, arrived, Outcome, outcome}
 use Rattle.laws.proofs.Turning.Outcome.{not_in_run, is_home, waits, departs, arrives}
 use Rattle.laws.proofs.Keeping.{kept_call, opened_stands, kept}
 
@@ -32,15 +32,15 @@ module _ (p : Plan) (size : ℕ) (s : State) (k : Kept p size s) (c d : ℕ) whe
   begun_turn (not_in_run _) = grind (arith, nat_tests)
   begun_turn (is_home _ _) = grind (arith, nat_tests)
   begun_turn (waits _ _ _ _) = grind (arith, nat_tests)
-  begun_turn (departs {t = t} cp e l f) = rw (get_d_set s.motions d (Travelling t) c (Standing 0) (omega (arith, k.long))) (grind (arith, nat_tests))
-  begun_turn (arrives {t = t} cp e l) = rw (get_d_set s.motions d (Standing (suc t)) c (Standing 0) (omega (arith, k.long))) (grind (arith, nat_tests))
+  begun_turn (departs {t = t} cp e l f) = rw (get_or-set s.motions d (Travelling t) c (Standing 0) (omega (arith, k.long))) (grind (arith, nat_tests))
+  begun_turn (arrives {t = t} cp e l) = rw (get_or-set s.motions d (Standing (suc t)) c (Standing 0) (omega (arith, k.long))) (grind (arith, nat_tests))
 
   ended_turn : {r : Turned} → Outcome p s d r → ended (motion_of r.state c) ≡ ended (motion_of s c) + cond (eqb c d) (cond (turn_arrived r.answer) 1 0) 0
   ended_turn (not_in_run _) = grind (arith, nat_tests)
   ended_turn (is_home _ _) = grind (arith, nat_tests)
   ended_turn (waits _ _ _ _) = grind (arith, nat_tests)
-  ended_turn (departs {t = t} cp e l f) = rw (get_d_set s.motions d (Travelling t) c (Standing 0) (omega (arith, k.long))) (grind (arith, nat_tests))
-  ended_turn (arrives {t = t} cp e l) = rw (get_d_set s.motions d (Standing (suc t)) c (Standing 0) (omega (arith, k.long))) (grind (arith, nat_tests))
+  ended_turn (departs {t = t} cp e l f) = rw (get_or-set s.motions d (Travelling t) c (Standing 0) (omega (arith, k.long))) (grind (arith, nat_tests))
+  ended_turn (arrives {t = t} cp e l) = rw (get_or-set s.motions d (Standing (suc t)) c (Standing 0) (omega (arith, k.long))) (grind (arith, nat_tests))
 
 -- a number of each carrier that a turn for it raises by one where its answer passes a test is raised as often as such answers are counted
 module _ (p : Plan) (size : ℕ) (o : Opens p size) (count : Motion → ℕ) (test : Result Turn RunFault → Bool)

@@ -20,7 +20,7 @@ use Rattle.laws.specs.Runs.{State, motion_of, Turned, starts_held, opened}
 use Rattle.laws.specs.Strings.{called, after, reached}
 use Rattle.laws.specs.Laws.{Opens, Occupies, seen}
 use Rattle.laws.proofs.Placed.{few_carriers, start_inside, legs_lead_away, entry_inside}
-use Rattle.laws.proofs.Turning.{get_d_set, held_nowhere, Within, Kept, departed, arrived, Outcome, outcome}
+use Rattle.laws.proofs.Turning.{get_or-set, held_nowhere, Within, Kept, departed, arrived, Outcome, outcome}
 use Rattle.laws.proofs.Turning.Outcome.{not_in_run, is_home, waits, departs, arrives}
 
 -- what holds of the value written, and of the others as they were, holds of a list after one write
@@ -42,8 +42,8 @@ module _ (p : Plan) (size : ℕ) (o : Opens p size) (s : State) (k : Kept p size
     held_departed : (d q : ℕ) → (holder_of (departed p s c t).holders q ≡ Some d) ↔ (Carrier p d × Occupies p d (motion_of (departed p s c t) d) q)
     held_departed d q =
         let inside = entry_inside p o.0 c cp (suc t) (omega arith) in
-        let a = get_d_set s.motions c (Travelling t) d (Standing 0) (omega (arith, k.long)) in
-        let b = get_d_set s.holders (entry p c (suc t)) (Some c) q None (omega (arith, k.sized)) in
+        let a = get_or-set s.motions c (Travelling t) d (Standing 0) (omega (arith, k.long)) in
+        let b = get_or-set s.holders (entry p c (suc t)) (Some c) q None (omega (arith, k.sized)) in
         let here = k.held d q in
         let there = k.held d (entry p c (suc t)) in
         rw (a, b) (grind (arith, nat_tests))
@@ -79,8 +79,8 @@ module _ (p : Plan) (size : ℕ) (o : Opens p size) (s : State) (k : Kept p size
     held_arrived : (d q : ℕ) → (holder_of (arrived p s c t).holders q ≡ Some d) ↔ (Carrier p d × Occupies p d (motion_of (arrived p s c t) d) q)
     held_arrived d q =
         let inside = entry_inside p o.0 c cp t (omega arith) in
-        let a = get_d_set s.motions c (Standing (suc t)) d (Standing 0) (omega (arith, k.long)) in
-        let b = get_d_set s.holders (entry p c t) None q None (omega (arith, k.sized)) in
+        let a = get_or-set s.motions c (Standing (suc t)) d (Standing 0) (omega (arith, k.long)) in
+        let b = get_or-set s.holders (entry p c t) None q None (omega (arith, k.sized)) in
         let away = legs_lead_away p o.0 c t l in
         let here = k.held d q in
         let there = k.held d (entry p c t) in
@@ -143,7 +143,7 @@ starts_entered p size o (suc n) l = go (starts_held p size (replicate size None)
         rw (entered_is size hs n (start p n) g) (record {
           sized = length-set hs (start p n) (Some n) ∙ b.sized;
           held = λ c q.
-              let a = get_d_set hs (start p n) (Some n) q None (omega (arith, b.sized)) in
+              let a = get_or-set hs (start p n) (Some n) q None (omega (arith, b.sized)) in
               let here = b.held c q in
               let apart = o.0.apart c n in
               rw a (grind (arith, nat_tests));

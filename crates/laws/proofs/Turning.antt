@@ -18,8 +18,8 @@ use Rattle.laws.specs.Laws.{Opens, Occupies, seen}
 use Rattle.laws.proofs.Placed.{few_carriers, entry_inside}
 
 -- a list after one write
-pub get_d_set : {A : Type 0} (xs : List A) (i : ℕ) (y : A) (j : ℕ) (d : A) → i < length xs → get_or (set xs i y) j d ≡ cond (eqb j i) y (get_or xs j d)
-get_d_set xs i y j d l = go (cases_eq j i)
+pub get_or-set : {A : Type 0} (xs : List A) (i : ℕ) (y : A) (j : ℕ) (d : A) → i < length xs → get_or (set xs i y) j d ≡ cond (eqb j i) y (get_or xs j d)
+get_or-set xs i y j d l = go (cases_eq j i)
   where
     go : (j ≡ i) ⊎ (j ≡ i → ⊥) → get_or (set xs i y) j d ≡ cond (eqb j i) y (get_or xs j d)
     go (inl e) = rw (eq-eqb j i e, e) (get_or-set_same xs i y d l)
