@@ -5,9 +5,9 @@ use Rattle.std.proofs.lemmas.Bool.{eq-eqb, or_right}
 use Rattle.floors.specs.Exits.{has}
 use Rattle.hall_floor.specs.declared.sides.Side.{Side}
 use Rattle.hall_floor.specs.declared.sides.Side.TheVariants.{North, West, East, South}
-use Rattle.hall_floor.specs.Halls.{Hall, cells, is_open, beyond, if_open, over, sides, listed, exits_over, hall_exits}
+use Rattle.hall_floor.specs.Halls.{Hall, cells, is_open, beyond, over, sides, listed, exits_over, hall_exits}
 use Rattle.hall_floor.specs.Grid.{right_column}
-use Rattle.hall_floor.specs.Legs.{Lies, picked, open_some, over_lies, has_over}
+use Rattle.hall_floor.specs.Legs.{Lies, over_open, over_lies, has_over}
 
 -- what a leg over a side tells
 pub record Leads (h : Hall) (c d : ℕ) (side : Side) : Type 0 where
@@ -16,11 +16,8 @@ pub record Leads (h : Hall) (c d : ℕ) (side : Side) : Type 0 where
   pub lies : Lies h c d side
 
 pub over_leads : (h : Hall) → 1 ≤ h.width → (c d : ℕ) (side : Side) → over h c side ≡ Some d → Leads h c d side
-unfolding over
 over_leads h some c d side e =
-    let p = picked (is_open h c) (if_open h (beyond h c side)) d e in
-    let q = open_some h (beyond h c side) d p.1 in
-    record { from = p.0; to = q.1; lies = over_lies h some c d side e }
+    let p = over_open h c d side e in record { from = p.0; to = p.2; lies = over_lies h some c d side e }
 
 lies_beyond : (h : Hall) (c d : ℕ) (side : Side) → d < cells h → Lies h c d side → beyond h c side ≡ Some d
 lies_beyond h c d North inside l = grind (arith, nat_tests)

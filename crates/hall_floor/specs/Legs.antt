@@ -21,25 +21,31 @@ none_some : {d : ℕ} → None ≢ Some d
 none_some e = let z : ◌≡◌ {A = ℕ} 0 1 = cc in omega arith
 
 -- what a test and then a choice gave, if it gave something
-pub picked : {X : Type 0} (b : Bool) (o : Option X) (x : X) → cond b o None ≡ Some x → (b ≡ true) × (o ≡ Some x)
+picked : {X : Type 0} (b : Bool) (o : Option X) (x : X) → cond b o None ≡ Some x → (b ≡ true) × (o ≡ Some x)
 picked true o x e = (refl, e)
 picked false o x e = let z : ◌≡◌ {A = ℕ} 0 1 = cc in absurd (omega arith)
 
-pub open_some : (h : Hall) (o : Option ℕ) (d : ℕ) → if_open h o ≡ Some d → (o ≡ Some d) × (is_open h d ≡ true)
+open_some : (h : Hall) (o : Option ℕ) (d : ℕ) → if_open h o ≡ Some d → (o ≡ Some d) × (is_open h d ≡ true)
 open_some h None d e = absurd (none_some e)
 open_some h (Some x) d e =
     let p = picked (is_open h x) (Some x) d e in
     let same : x ≡ d = cc in
     (p.1, rw same at p.0)
 
+-- where a leg over a side leads: to the cell beyond it, and both cells are open
+pub over_open : (h : Hall) (c d : ℕ) (side : Side) → over h c side ≡ Some d → (is_open h c ≡ true) × (beyond h c side ≡ Some d) × (is_open h d ≡ true)
+unfolding over
+over_open h c d side e =
+    let p = picked (is_open h c) (if_open h (beyond h c side)) d e in
+    let q = open_some h (beyond h c side) d p.1 in
+    (p.0, q.0, q.1)
+
 -- each leg leads to the cell beyond its side
 abbrev pub AllLie : Hall → Type 0
 AllLie h = (c d : ℕ) (side : Side) → over h c side ≡ Some d → Lies h c d side
 
 pub over_lies : (h : Hall) → 1 ≤ h.width → AllLie h
-unfolding over
-over_lies h some c d side e =
-    beyond_lies side (open_some h (beyond h c side) d (picked (is_open h c) (if_open h (beyond h c side)) d e).1).0
+over_lies h some c d side e = beyond_lies side (over_open h c d side e).1
   where
     beyond_lies : (s : Side) → beyond h c s ≡ Some d → Lies h c d s
     beyond_lies North k = grind (arith, nat_tests)
@@ -128,10 +134,8 @@ open_inside h c e = ltb-true c (cells h) (and_parts _ _ e).0
 
 -- the exits of a place are places of the hall
 pub exits_inside : (h : Hall) (c d : ℕ) → has d (hall_exits h c) ≡ true → d < cells h
-unfolding hall_exits over
-exits_inside h c d e =
-    let p = has_over h c d sides e in
-    open_inside h d (open_some h (beyond h c p.0) d (picked (is_open h c) (if_open h (beyond h c p.0)) d p.1).1).1
+unfolding hall_exits
+exits_inside h c d e = let p = has_over h c d sides e in open_inside h d (over_open h c d p.0 p.1).2
 
 lies_away : (h : Hall) → 1 ≤ h.width → (c : ℕ) (side : Side) → Lies h c c side → ⊥
 lies_away h some c North l = omega arith

@@ -1,5 +1,5 @@
 -- Chains that lead back: what a search for a circular wait goes through.
-use Rattle.std.specs.Prelude.{◌≡◌, ℕ, ◌+◌, ◌<◌, ◌≤◌, List, [], ◌∷◌, length, slice_index, slice_index_or, slice_set}
+use Rattle.std.specs.Prelude.{◌≡◌, ℕ, ◌+◌, ◌<◌, ◌≤◌, List, [], ◌∷◌, length, slice_index, slice_set}
 use Rattle.plans.specs.Plan.{Plan}
 use Rattle.laws.specs.declared.pairs.Pair.{Pair}
 use Rattle.laws.specs.Paths.{Carrier, HasLeg, entry}

@@ -1,5 +1,5 @@
 -- What is checked of tables that were computed without a promise: each is a certificate for a fact about chains.
-use Rattle.std.specs.Prelude.{◌≡◌, ℕ, suc, ◌+◌, ◌-◌, ◌<◌, ◌≤◌, cond, ◌⊎◌, List, ◌∷◌, count_by, ◌==◌, ◌≢◌, nat_eq, slice_index, slice_index_or}
+use Rattle.std.specs.Prelude.{◌≡◌, ℕ, suc, ◌+◌, ◌-◌, ◌<◌, ◌≤◌, cond, ◌⊎◌, List, ◌∷◌, count_by, ◌==◌, ◌≢◌, nat_eq, slice_index}
 use Rattle.plans.specs.Plan.{Plan}
 use Rattle.laws.specs.declared.pairs.Pair.{Pair}
 use Rattle.laws.specs.Paths.{Carrier, HasLeg, entry, last}

@@ -3,7 +3,10 @@ use Rattle.std.proofs.Common.{◌≡◌, ℕ, zero, suc, ◌+◌, ◌<◌, ◌�
 use Rattle.std.proofs.lemmas.Bool.{cases_lt, eq-eqb, ne_eqb}
 use Rattle.std.specs.Option.{option_map}
 use Rattle.std.specs.List.{slice_get}
-use Rattle.plans.specs.Plan.{Route, nobody, entries_of}
+use Rattle.plans.specs.declared.plans.ReadPlan.{ReadPlan}
+use Rattle.plans.specs.Plan.{Route, nobody, entries_of, carrier}
+use Rattle.plans.specs.Held.{plan_of}
+use Rattle.plans.proofs.Facts.{entries_few}
 use Rattle.laws.specs.Rules.{or_else, first, when}
 
 pub first_more : {A : Type 0} (n : ℕ) (f : ℕ → Option A) → first n f ≡ None → f n ≡ None → first (n + 1) f ≡ None
@@ -39,11 +42,15 @@ value_mapped g none e (x ∷ xs) zero = refl
 value_mapped g none e (x ∷ xs) (suc i) = value_mapped g none e xs i
 
 -- no path is longer than all paths together
-pub path_few : (rs : List Route) (c : ℕ) → length (get_or rs c nobody).path ≤ length (entries_of rs)
+path_few : (rs : List Route) (c : ℕ) → length (get_or rs c nobody).path ≤ length (entries_of rs)
 unfolding entries_of
 path_few [] c = omega arith
 path_few (r ∷ rs) zero = omega (arith, length-append r.path (entries_of rs))
 path_few (r ∷ rs) (suc c) = omega (arith, length-append r.path (entries_of rs), path_few rs c)
+
+-- no path of a plan that was read has more than 2,048 entries
+pub path_short : (p : ReadPlan) (c : ℕ) → length (carrier (plan_of p) c).path ≤ 2048
+path_short p c = omega (arith, path_few (plan_of p).carriers c, entries_few p)
 
 -- two tests of one carrier, one after the other
 module _ {A : Type 0} (x y : A) (a b c d : ℕ) where

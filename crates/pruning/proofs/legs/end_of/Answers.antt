@@ -3,9 +3,8 @@ use Rattle.std.proofs.lemmas.List.{get_or_past}
 use Rattle.std.proofs.lemmas.Bool.{cases_lt}
 use Rattle.plans.specs.Plan.{carrier}
 use Rattle.plans.specs.Held.{plan_of}
-use Rattle.plans.proofs.Facts.{entries_few}
 use Rattle.laws.specs.Paths.{entry}
-use Rattle.rules.proofs.Firsts.{path_few}
+use Rattle.rules.proofs.Firsts.{path_short}
 use Rattle.pruning.proofs.legs.end_of.Goals as goal
 
 -- a number that was cut off at 65,535 is as far beyond a path as the one that it stands for
@@ -20,5 +19,4 @@ pub returns : goal.returns
 unfolding entry
 returns c =
     let p = plan_of c.args.plan.now in
-    let few : length (carrier p c.args.leg.carrier).path ≤ 2048 = omega (arith, path_few p.carriers c.args.leg.carrier, entries_few c.args.plan.now) in
-    c.entry.ensures ∙ cut_off (carrier p c.args.leg.carrier).path c.args.leg.leg c.saturating_add.result c.saturating_add.ensures few
+    c.entry.ensures ∙ cut_off (carrier p c.args.leg.carrier).path c.args.leg.leg c.saturating_add.result c.saturating_add.ensures (path_short c.args.plan.now c.args.leg.carrier)
