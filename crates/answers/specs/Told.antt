@@ -8,7 +8,6 @@ use Rattle.files.specs.declared.faults.FileFault.{FileFault}
 use Rattle.files.specs.Faults.{refusal}
 use Rattle.answers.specs.declared.answer.Account.{Account}
 use Rattle.answers.specs.declared.answer.Answer.{Answer}
-use Rattle.answers.specs.declared.answer.Answer.TheVariants.{Refused, Read}
 use Rattle.answers.specs.declared.answer.FloorKind.{FloorKind}
 use Rattle.answers.specs.declared.answer.FloorKind.TheVariants.{Rail, Hall}
 
@@ -30,8 +29,8 @@ account_of p = record {
 }
 
 abbrev pub told : Result Plan FileFault → Answer
-told (Ok p) = Read (account_of p)
-told (Err fault) = Refused fault
+told (Ok p) = record { 0 = Ok (account_of p) }
+told (Err fault) = record { 0 = Err fault }
 
 abbrev pub spelt_kind : FloorKind → List ℕ
 spelt_kind Rail = codes "rail"
@@ -42,6 +41,9 @@ spelt_account a =
     spelt_kind a.kind ++ (codes " places " ++ (decimal a.places ++ (codes " legs " ++ (decimal a.legs
     ++ (codes " carriers " ++ (decimal a.carriers ++ (codes " entries " ++ decimal a.entries)))))))
 
+abbrev pub spelt_told : Result Account FileFault → List ℕ
+spelt_told (Ok account) = codes "plan read " ++ spelt_account account
+spelt_told (Err fault) = codes "file refused " ++ spelt (refusal fault)
+
 abbrev pub spelt_answer : Answer → List ℕ
-spelt_answer (Refused fault) = codes "file refused " ++ spelt (refusal fault)
-spelt_answer (Read account) = codes "plan read " ++ spelt_account account
+spelt_answer a = spelt_told a.0

@@ -22,11 +22,6 @@ pub struct Account {
     pub entries: u16,
 }
 
-/// The answer to a file.
+/// The answer to a file: an account of the plan that it is read as, or why it is refused.
 #[derive(Clone, Copy, PartialEq, Eq, Debug)]
-pub enum Answer {
-    /// The file is refused.
-    Refused(FileFault),
-    /// The file is read as a plan.
-    Read(Account),
-}
+pub struct Answer(pub Result<Account, FileFault>);

@@ -11,30 +11,33 @@ use floors::floor::Floor;
 use floors::legs::leg_count;
 use plans::plans::ReadPlan;
 use plans::rows::CarrierRow;
+use plans::tables::Tables;
 use std::alloc::{AllocError, Global};
 use store_floor::store::StoreFloor;
 
-/// The kind of a floor.
-fn kind(floor: &StoreFloor) -> FloorKind
-    ensures { result ≡ kind_of (layout_of floor.now) }
-{
-    match floor {
-        StoreFloor::Rail(_) => FloorKind::Rail,
-        StoreFloor::Hall(_) => FloorKind::Hall,
+impl<'f> From<&'f StoreFloor> for FloorKind {
+    ghost from_gives = { λ floor kind. kind ≡ kind_of (layout_of floor.now) };
+
+    fn from(floor: &'f StoreFloor) -> FloorKind {
+        match floor {
+            StoreFloor::Rail(_) => FloorKind::Rail,
+            StoreFloor::Hall(_) => FloorKind::Hall,
+        }
     }
 }
 
-/// An account of a plan.
-fn account(plan: &ReadPlan) -> Account
-    ensures { result ≡ account_of (plan_of plan.now) }
-{
-    let floor = plan.floor();
-    Account {
-        kind: kind(floor),
-        places: floor.place_count(),
-        legs: leg_count(floor),
-        carriers: plan.carrier_count(),
-        entries: plan.entry_count(),
+impl<'p> From<&'p ReadPlan> for Account {
+    ghost from_gives = { λ plan account. account ≡ account_of (plan_of plan.now) };
+
+    fn from(plan: &'p ReadPlan) -> Account {
+        let floor = plan.floor();
+        Account {
+            kind: floor.into(),
+            places: floor.place_count(),
+            legs: leg_count(floor),
+            carriers: plan.carrier_count(),
+            entries: plan.entry_count(),
+        }
     }
 }
 
@@ -42,12 +45,12 @@ fn account(plan: &ReadPlan) -> Account
 pub fn answer(heap: Global, bytes: &[u8]) -> Result<Answer, AllocError>
     ensures { IfOk result (λ a. a ≡ told (parse bytes.now)) }
 {
-    let entries = vec![in heap; 0u16; 2048]?;
-    let rows = vec![in heap; CarrierRow::NONE; 32]?;
+    let entries = vec![in heap; 0u16; Tables::ENTRIES]?;
+    let rows = vec![in heap; CarrierRow::NONE; Tables::ROWS]?;
     match read(heap, bytes, entries, rows) {
-        Ok(plan) => Ok(Answer::Read(account(&plan))),
+        Ok(plan) => Ok(Answer(Ok(Account::from(&plan)))),
         Err(refused) => match refused.fault {
-            ReadFault::File(fault) => Ok(Answer::Refused(fault)),
+            ReadFault::File(fault) => Ok(Answer(Err(fault))),
             ReadFault::Memory => Err(AllocError),
             ReadFault::Short(_) => unreachable(),
         },

@@ -10,8 +10,7 @@ impl fmt::Display for FloorKind {
     ghost output = { λ k. Some (spelt_kind k) };
 
     fn fmt<W: fmt::Write>(&self, f: &mut fmt::Formatter<W>) -> fmt::Result {
-        let kind = *self;
-        match kind {
+        match self {
             FloorKind::Rail => write!(f, "rail"),
             FloorKind::Hall => write!(f, "hall"),
         }
@@ -40,10 +39,9 @@ impl fmt::Display for Answer {
     ghost output = { λ a. Some (spelt_answer a) };
 
     fn fmt<W: fmt::Write>(&self, f: &mut fmt::Formatter<W>) -> fmt::Result {
-        let answer = *self;
-        match answer {
-            Answer::Refused(fault) => write!(f, "file refused {fault}"),
-            Answer::Read(account) => write!(f, "plan read {account}"),
+        match self.0 {
+            Ok(account) => write!(f, "plan read {account}"),
+            Err(fault) => write!(f, "file refused {fault}"),
         }
     }
 }

@@ -1,7 +1,11 @@
 -- What the write of one holder does to the number of places that a carrier holds.
-use Rattle.std.proofs.Common.{◌≡◌, ℕ, zero, suc, ◌+◌, ◌<◌, ◌≤◌, true, false, cond, eqb, ◌≢◌, List, [], ◌∷◌, length, get_or, set, replicate, Some, None, Option, sym, refl, ap, ◌∙◌, subst, ⊎_elim, arith}
-use Rattle.std.proofs.lemmas.List.{get_or-set_same, get_or-set_other, set_past}
-use Rattle.std.proofs.lemmas.Bool.{cases_eq, cases_lt, cases_Bool, eqb-true, eq-eqb}
+use Rattle.std.proofs.Common.{◌≡◌, ℕ, zero, suc, ◌+◌, ◌<◌, ◌≤◌, cond, ◌≢◌, List, length, get_or, set, replicate, Some, None, Option, sym, refl, ap, ◌∙◌, ⊎_elim, arith}
+use Rattle.std.specs.List.{sum_by}
+use Rattle.std.proofs.lemmas.List.{get_or_past, get_or-set_same, get_or-set_other, set_past}
+use Rattle.std.proofs.lemmas.List.Folds.{sum_by-replicate}
+use Rattle.std.proofs.lemmas.List.Recursion.{is_sum_by}
+use Rattle.std.proofs.lemmas.List.Sums.{sum_by-set}
+use Rattle.std.proofs.lemmas.Bool.{cases_eq, cases_lt, eq-eqb}
 use Rattle.std.proofs.lemmas.Bool.Decides.{nat_tests}
 use Rattle.boards.specs.Holders.{holder_of, Holds, Free, held, is_holder, AllBelow, AtMostTwo}
 
@@ -9,17 +13,25 @@ use Rattle.boards.specs.Holders.{holder_of, Holds, Free, held, is_holder, AllBel
 abbrev pub one : Option ℕ → ℕ → ℕ
 one holder carrier = cond (is_holder holder carrier) 1 0
 
+pub one_same : (c : ℕ) → one (Some c) c ≡ 1
+one_same c = ap (λ b. cond b 1 0) (eq-eqb c c refl)
+
+pub one_other : (c d : ℕ) → d ≢ c → one (Some c) d ≡ 0
+one_other c d s = grind (arith, nat_tests)
+
+-- the count is a sum over the holders
+pub held_sum : (hs : List (Option ℕ)) (c : ℕ) → held hs c ≡ sum_by (λ h. one h c) hs
+unfolding held
+held_sum hs c = is_sum_by (λ w. held w c) (λ h. one h c) refl (λ h w. refl) hs
+
 -- the places of a carrier after a write, and the place written before it, are those before and the place written now
 pub held-set : (hs : List (Option ℕ)) (p : ℕ) (x y : Option ℕ) (d : ℕ) → p < length hs → holder_of hs p ≡ x → held (set hs p y) d + one x d ≡ held hs d + one y d
-unfolding held
-held-set [] p x y d h e = omega arith
-held-set (z ∷ hs) zero x y d h e = let k : one z d ≡ one x d = ap (λ w. one w d) e in omega arith
-held-set (z ∷ hs) (suc p) x y d h e = omega (arith, held-set hs p x y d (omega arith) e)
+held-set hs p x y d l e =
+    omega (arith, held_sum (set hs p y) d, held_sum hs d, sum_by-set (λ h. one h d) hs p y None l, ap (λ h. one h d) e)
 
 pub held_none : (n d : ℕ) → held (replicate n None) d ≡ 0
-unfolding held
-held_none zero d = refl
-held_none (suc n) d = omega (arith, held_none n d)
+held_none n d =
+    omega (arith, held_sum (replicate n None) d, sum_by-replicate (λ (h : Option ℕ). one h d) n None)
 
 -- every place of a new board is free
 pub free_none : (n p : ℕ) → Free (replicate n None) p
@@ -30,13 +42,19 @@ free_none (suc n) (suc p) = free_none n p
 -- a carrier that holds a place holds at least one
 pub held_some : (hs : List (Option ℕ)) (p c : ℕ) → p < length hs → Holds hs c p → 1 ≤ held hs c
 held_some hs p c l mine =
-    let e = held-set hs p (Some c) None c l mine in
-    let o : one (Some c) c ≡ 1 = ap (λ b. cond b 1 0) (eq-eqb c c refl) in
-    omega arith
+    omega (arith, held-set hs p (Some c) None c l mine, one_same c)
+
+-- a number that stands in a list has a place in it
+pub some_inside : (xs : List (Option ℕ)) (i x : ℕ) → get_or xs i None ≡ Some x → i < length xs
+some_inside xs i x e =
+    ⊎_elim
+    (λ (l : i < length xs). l)
+    (λ (l : length xs ≤ i). let past = get_or_past xs i None l in absurd (cc))
+    (cases_lt i (length xs))
 
 -- no number, or one below the bound, is below the bound
 pub none_below : (n x : ℕ) → None ≡ Some x → x < n
-none_below n x e = let z : ◌≡◌ {A = ℕ} 0 1 = cc in omega arith
+none_below n x e = cc
 
 pub some_below : (n c : ℕ) → c < n → (x : ℕ) → Some c ≡ Some x → x < n
 some_below n c l x e = let s : c ≡ x = cc in omega arith
@@ -60,10 +78,9 @@ few_enter hs p c l free room few d =
     let e = held-set hs p None (Some c) d l free in
     let f = few d in
     ⊎_elim
-    (λ (s : eqb c d ≡ true). let r : held hs d < 2 = subst (λ (w : ℕ). held hs w < 2) (eqb-true c d s) room in
-    let o : one (Some c) d ≤ 1 = grind (arith, nat_tests) in omega arith)
-    (λ (s : eqb c d ≡ false). let o : one (Some c) d ≡ 0 = ap (λ b. cond b 1 0) s in omega arith)
-    (cases_Bool (eqb c d))
+    (λ (s : d ≡ c). omega (arith, ap (held hs) s, ap (one (Some c)) s, one_same c))
+    (λ (s : d ≢ c). omega (arith, one_other c d s))
+    (cases_eq d c)
 
 -- a place becomes free
 pub few_leave : (hs : List (Option ℕ)) (p : ℕ) → p < length hs → AtMostTwo hs → AtMostTwo (set hs p None)

@@ -1,5 +1,6 @@
 -- What a board means: the list of the holders of its places, from place 0 on.
-use Rattle.std.specs.Prelude.{◌≡◌, ℕ, ◌+◌, ◌<◌, ◌≤◌, Bool, true, false, cond, List, [], ◌∷◌, Some, None, Option, ◌==◌, slice_index_or}
+use Rattle.std.specs.Prelude.{◌≡◌, ℕ, ◌+◌, ◌<◌, ◌≤◌, Bool, false, cond, List, [], ◌∷◌, is_none, Some, None, Option, ◌==◌, slice_index_or}
+use Rattle.std.specs.List.{list_all}
 
 -- the holder of a place, if it has one; a place beyond the list has none
 abbrev pub holder_of : List (Option ℕ) → ℕ → Option ℕ
@@ -25,9 +26,7 @@ held (holder ∷ holders) carrier = cond (is_holder holder carrier) 1 0 + held h
 
 -- whether no place is held
 unfoldable pub empty : List (Option ℕ) → Bool
-empty [] = true
-empty (None ∷ holders) = empty holders
-empty (Some carrier ∷ holders) = false
+empty holders = list_all is_none holders
 
 -- each number that stands in the list is below a bound
 abbrev pub AllBelow : ℕ → List (Option ℕ) → Type 0

@@ -13,42 +13,45 @@ pub trait Board: Sized {
     /// How many places a board of this kind has.
     const PLACES: u16;
 
-    /// The same number, for clauses.
-    ghost size: { ℕ };
+    /// The same number, in clauses.
+    ghost PLACES: { ℕ };
 
     /// The holder of each place, from place 0 on.
     ghost holders: { Self → List (Option ℕ) };
 
     /// The number of places: `PLACES`.
-    fn place_count() -> u16
-        ensures { result ≡ size };
+    final fn place_count() -> u16
+        ensures { result ≡ PLACES }
+    {
+        Self::PLACES
+    }
 
     /// A board of which no place is held.
     fn new() -> Self
-        ensures { holders result ≡ replicate size None };
+        ensures { holders result ≡ replicate PLACES None };
 
     /// The carrier becomes the holder of the place, and all else stays. Refused, in this order, are a place beyond the board,
     /// a carrier above 31, a place that has a holder (be it the carrier itself), and a carrier that holds two places.
     fn enter(&mut self, carrier: u8, place: u16) -> Result<(), BoardFault>
-        ensures answer { result ≡ enter_answer size (holders self.old) carrier place }
-        ensures after { holders self.new ≡ entered size (holders self.old) carrier place };
+        ensures answer { result ≡ enter_answer PLACES (holders self.old) carrier place }
+        ensures after { holders self.new ≡ entered PLACES (holders self.old) carrier place };
 
     /// The place becomes free, and all else stays. Refused, in this order, are a place beyond the board, a carrier above 31,
     /// and a place that the carrier does not hold.
     fn leave(&mut self, carrier: u8, place: u16) -> Result<(), BoardFault>
-        ensures answer { result ≡ leave_answer size (holders self.old) carrier place }
-        ensures after { holders self.new ≡ left size (holders self.old) carrier place };
+        ensures answer { result ≡ leave_answer PLACES (holders self.old) carrier place }
+        ensures after { holders self.new ≡ left PLACES (holders self.old) carrier place };
 
     /// The holder of the place, or none. Refused is a place beyond the board.
     fn who(&self, place: u16) -> Result<Option<u8>, BoardFault>
-        ensures { result ≡ who_answer size (holders self.now) place };
+        ensures { result ≡ who_answer PLACES (holders self.now) place };
 
     /// How many places the carrier holds. Refused is a carrier above 31.
     fn count(&self, carrier: u8) -> Result<u8, BoardFault>
         ensures { result ≡ count_answer (holders self.now) carrier };
 
-    /// There is an entry for each place and no more: nothing is held beyond the size.
-    ghost sized: { (b : Self) → length (holders b) ≡ size };
+    /// There is an entry for each of the `PLACES` and no more: nothing is held beyond them.
+    ghost sized: { (b : Self) → length (holders b) ≡ PLACES };
 
     /// Each holder is one of the carriers 0 to 31.
     ghost known: { (b : Self) → Known (holders b) };

@@ -4,6 +4,7 @@ ghost use Rattle.std.specs.Prelude.{◌≡◌, Some};
 ghost use Rattle.refusals.specs.Refusal.{spelt};
 ghost use Rattle.boards.specs.Refusals.{refusal};
 
+use std::error::Error;
 use std::fmt;
 
 #[derive(Clone, Copy, PartialEq, Eq, Debug)]
@@ -22,10 +23,11 @@ pub enum BoardFault {
 
 impl BoardFault {
     /// The number of the refusal.
+    // Kept: by a rule of the project a refusal has a number, which is printed and stands for it on screens.
     pub fn number(&self) -> u8
         ensures { result ≡ (refusal self.now).number }
     {
-        match *self {
+        match self {
             BoardFault::BeyondBoard { .. } => 30,
             BoardFault::BeyondCarriers { .. } => 31,
             BoardFault::Held { .. } => 32,
@@ -40,16 +42,21 @@ impl fmt::Display for BoardFault {
 
     fn fmt<W: fmt::Write>(&self, f: &mut fmt::Formatter<W>) -> fmt::Result {
         let number = self.number();
-        let fault = *self;
-        match fault {
+        match self {
             BoardFault::BeyondBoard { place } => write!(f, "{number} {place}"),
             BoardFault::BeyondCarriers { carrier } => write!(f, "{number} {carrier}"),
             BoardFault::Held { place, holder } => write!(f, "{number} {place} {holder}"),
             BoardFault::HoldsTwo { carrier } => write!(f, "{number} {carrier}"),
-            BoardFault::NotHolder { place, holder } => match holder {
-                Some(holder) => write!(f, "{number} {place} {holder}"),
-                None => write!(f, "{number} {place}"),
-            },
+            BoardFault::NotHolder {
+                place,
+                holder: Some(holder),
+            } => write!(f, "{number} {place} {holder}"),
+            BoardFault::NotHolder {
+                place,
+                holder: None,
+            } => write!(f, "{number} {place}"),
         }
     }
 }
+
+impl Error for BoardFault {}

@@ -1,1 +1,3 @@
-pub mod Freeing
+pub mod Parting
+pub mod Looking
+pub mod Changing

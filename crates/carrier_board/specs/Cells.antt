@@ -1,36 +1,38 @@
--- A board kept by carriers: the cells 2c and 2c + 1 are those of carrier c, each with a place or with none.
-use Rattle.std.specs.Prelude.{◌≡◌, ℕ, ◌+◌, ◌*◌, ◌/◌, Bool, true, false, cond, List, [], ◌∷◌, replicate, is_some, Some, None, Option, ◌==◌, slice_index_or, slice_set}
+-- A board kept by carriers: for each carrier its cells, each with a place or with none.
+use Rattle.std.specs.Prelude.{◌≡◌, ℕ, ◌<◌, Bool, List, [], length, map, Some, None, Option, nat_eq, slice_index_or, position}
+use Rattle.std.specs.List.{list_any, range_with_len}
+use Rattle.std.specs.Option.{option_eq}
+use Rattle.boards.specs.Holders.{AllBelow}
 
--- the holders once the place in a cell, if it has one, is the carrier's
-abbrev pub put : Option ℕ → ℕ → List (Option ℕ) → List (Option ℕ)
-put None carrier holders = holders
-put (Some place) carrier holders = slice_set holders place (Some carrier)
+-- a carrier's cells
+abbrev pub cells_of : List (List (Option ℕ)) → ℕ → List (Option ℕ)
+cells_of cells carrier = slice_index_or cells carrier []
 
--- the holders that the cells, numbered from k on, give a board of n places: cell k is carrier k / 2's
-unfoldable pub spread : ℕ → List (Option ℕ) → ℕ → List (Option ℕ)
-spread n [] k = replicate n None
-spread n (cell ∷ cells) k = put cell (k / 2) (spread n cells (k + 1))
+-- what one cell of a carrier has
+abbrev pub in_cell : List (List (Option ℕ)) → ℕ → ℕ → Option ℕ
+in_cell cells carrier i = slice_index_or (cells_of cells carrier) i None
 
--- whether a cell has the place
-abbrev pub has_place : Option ℕ → ℕ → Bool
-has_place None place = false
-has_place (Some own) place = own == place
+-- whether one of a carrier's cells has the place
+abbrev pub has_place : List (Option ℕ) → ℕ → Bool
+has_place own place = list_any (λ cell. option_eq nat_eq cell (Some place)) own
 
--- the first of the cells, numbered from k on, that has the place
-abbrev pub cell_of : List (Option ℕ) → ℕ → ℕ → Option ℕ
-cell_of [] k place = None
-cell_of (cell ∷ cells) k place = cond (has_place cell place) (Some k) (cell_of cells (k + 1) place)
+-- the first carrier with a cell that has the place
+abbrev pub carrier_of : List (List (Option ℕ)) → ℕ → Option ℕ
+carrier_of cells place = position (λ own. has_place own place) cells
 
--- the first of the carrier's two cells that has no place
-abbrev pub free_cell : List (Option ℕ) → ℕ → Option ℕ
-free_cell cells carrier =
-    cond (is_some (slice_index_or cells (2 * carrier) None)) (cond (is_some (slice_index_or cells (2 * carrier + 1) None)) None (Some (2 * carrier + 1))) (Some (2 * carrier))
+-- the holders that the cells give a board of n places: of each place, the carrier that has it
+unfoldable pub spread : ℕ → List (List (Option ℕ)) → List (Option ℕ)
+spread n cells = map (carrier_of cells) (range_with_len 0 n)
 
--- how many places a cell has
-abbrev pub in_cell : Option ℕ → ℕ
-in_cell None = 0
-in_cell (Some place) = 1
+-- each carrier has two cells
+abbrev pub Pairs : List (List (Option ℕ)) → Type 0
+Pairs cells = (carrier : ℕ) → carrier < length cells → length (cells_of cells carrier) ≡ 2
+
+-- each place in a cell is below n
+abbrev pub Within : ℕ → List (List (Option ℕ)) → Type 0
+Within n cells = (carrier : ℕ) → AllBelow n (cells_of cells carrier)
 
 -- two cells with the same place are one cell
-abbrev pub Apart : List (Option ℕ) → Type 0
-Apart cells = (i j : ℕ) → (is_some (slice_index_or cells i None) ≡ true) × (slice_index_or cells i None ≡ slice_index_or cells j None) → i ≡ j
+abbrev pub Apart : List (List (Option ℕ)) → Type 0
+Apart cells =
+    (c d i j place : ℕ) → in_cell cells c i ≡ Some place → in_cell cells d j ≡ Some place → (c ≡ d) × (i ≡ j)

@@ -1,56 +1,68 @@
--- The search for the cell that has a place.
-use Rattle.std.specs.Prelude.{◌≡◌, ℕ, zero, suc, ◌+◌, ◌<◌, ◌≤◌, true, false, List, [], ◌∷◌, length, drop, Some, None, Option, ◌==◌, ◌≢◌, nat_eq, slice_index_or, refl}
-use Rattle.std.proofs.Common.{sym, ◌∙◌, ap, ⊎_elim, arith}
-use Rattle.std.proofs.lemmas.List.{at_drop_more, at_drop_all}
-use Rattle.std.proofs.lemmas.Bool.{cases_Bool, eq-eqb, ne_eqb, cond-true, cond-false}
-use Rattle.carrier_board.specs.Cells.{has_place, cell_of}
+-- Which carrier has a place.
+use Rattle.std.specs.Prelude.{◌≡◌, ℕ, zero, suc, ◌<◌, ◌≤◌, ◌≢◌, Bool, true, false, List, [], ◌∷◌, length, Some, None, Option, nat_eq, slice_index_or, position, refl}
+use Rattle.std.specs.List.{position_or_len}
+use Rattle.std.specs.Option.{option_eq}
+use Rattle.std.proofs.Common.{sym, ◌∙◌, ap, subst, ⊎_elim, arith}
+use Rattle.std.proofs.lemmas.List.{get_or_past}
+use Rattle.std.proofs.lemmas.List.Quantifiers.{position-Some}
+use Rattle.std.proofs.lemmas.List.Sums.{fails_before_first}
+use Rattle.std.proofs.lemmas.Bool.{cases_eq, cases_lt, cases_Bool, eq-eqb, ne_eqb, eqb-true, lt-ltb, false≢true}
+use Rattle.boards.specs.Holders.{is_holder}
+use Rattle.carrier_board.specs.Cells.{cells_of, has_place, carrier_of, Apart}
 
--- a place that is in no cell is not found
-abbrev pub Absent : List (Option ℕ) → ℕ → Type 0
-Absent xs p = (j : ℕ) → slice_index_or xs j None ≢ Some p
+-- a cell that equals what is looked for has it
+pub is_held : (cell held : Option ℕ) → option_eq nat_eq cell held ≡ true → cell ≡ held
+is_held None None e = refl
+is_held None (Some p) e = absurd (false≢true e)
+is_held (Some q) None e = absurd (false≢true e)
+is_held (Some q) (Some p) e = ap (λ w. Some w) (eqb-true q p e)
 
-pub cell_none : (xs : List (Option ℕ)) (k p : ℕ) → Absent xs p → cell_of xs k p ≡ None
-cell_none [] k p a = refl
-cell_none (None ∷ xs) k p a = cell_none xs (k + 1) p (λ j e. a (suc j) e)
-cell_none (Some q ∷ xs) k p a =
-    cond-false (q == p) (Some k) (cell_of xs (k + 1) p) (ne_eqb q p (λ e. a zero (ap (λ w. Some w) e))) ∙ cell_none xs (k + 1) p (λ j e. a (suc j) e)
-
-pub cell_absent : (xs : List (Option ℕ)) (k p : ℕ) → cell_of xs k p ≡ None → Absent xs p
-cell_absent [] k p s j e = let z : ◌≡◌ {A = ℕ} 0 1 = cc in omega arith
-cell_absent (None ∷ xs) k p s zero e = let z : ◌≡◌ {A = ℕ} 0 1 = cc in omega arith
-cell_absent (None ∷ xs) k p s (suc j) e = cell_absent xs (k + 1) p s j e
-cell_absent (Some q ∷ xs) k p s zero e =
-    let d : q ≡ p = cc in
-    let t = sym (cond-true (q == p) (Some k) (cell_of xs (k + 1) p) (eq-eqb q p d)) ∙ s in
-    let z : ◌≡◌ {A = ℕ} 0 1 = cc in omega arith
-cell_absent (Some q ∷ xs) k p s (suc j) e =
+-- a place that is found among the cells is in one of them
+pub has_where : (own : List (Option ℕ)) (p : ℕ) → has_place own p ≡ true → (i : ℕ) × (slice_index_or own i None ≡ Some p)
+has_where [] p e = absurd (false≢true e)
+has_where (cell ∷ own) p e =
     ⊎_elim
-    (λ (b : nat_eq q p ≡ true). let t = sym (cond-true (q == p) (Some k) (cell_of xs (k + 1) p) b) ∙ s in let z : ◌≡◌ {A = ℕ} 0 1 = cc in omega arith)
-    (λ (b : nat_eq q p ≡ false). cell_absent xs (k + 1) p (sym (cond-false (q == p) (Some k) (cell_of xs (k + 1) p) b) ∙ s) j e)
-    (cases_Bool (q == p))
+    (λ (b : option_eq nat_eq cell (Some p) ≡ true). (zero, is_held cell (Some p) b))
+    (λ (b : option_eq nat_eq cell (Some p) ≡ false). let w = has_where own p (rw b at e) in (suc w.0, w.1))
+    (cases_Bool (option_eq nat_eq cell (Some p)))
 
--- a cell that is found is one of the cells
-pub cell_below : (xs : List (Option ℕ)) (k p j : ℕ) → cell_of xs k p ≡ Some j → j < k + length xs
-cell_below [] k p j e = let z : ◌≡◌ {A = ℕ} 0 1 = cc in omega arith
-cell_below (None ∷ xs) k p j e = omega (arith, cell_below xs (k + 1) p j e)
-cell_below (Some q ∷ xs) k p j e =
+-- where no element of a list passes, the first place that passes is past its end
+pub none_passes : {X : Type 0} (test : X → Bool) (xs : List X) → position test xs ≡ None → length xs ≤ position_or_len test xs
+none_passes test xs e =
     ⊎_elim
-    (λ (b : nat_eq q p ≡ true). let t = sym (cond-true (q == p) (Some k) (cell_of xs (k + 1) p) b) ∙ e in let z : k ≡ j = cc in omega arith)
-    (λ (b : nat_eq q p ≡ false). omega (arith, cell_below xs (k + 1) p j (sym (cond-false (q == p) (Some k) (cell_of xs (k + 1) p) b) ∙ e)))
-    (cases_Bool (q == p))
+    (λ (l : position_or_len test xs < length xs). let s = rw (lt-ltb (position_or_len test xs) (length xs) l) at e in absurd (cc))
+    (λ (l : length xs ≤ position_or_len test xs). l)
+    (cases_lt (position_or_len test xs) (length xs))
 
--- the search for a place over what is left of the cells
-pub cell_here : (xs : List (Option ℕ)) (j p : ℕ) → j < length xs → slice_index_or xs j None ≡ Some p → Some j ≡ cell_of (drop j xs) j p
-cell_here xs j p l e =
-    sym (at_drop_more (λ ys. cell_of ys j p) xs j None l ∙ cond-true (has_place (slice_index_or xs j None) p) (Some j) (cell_of (drop (j + 1) xs) (j + 1) p) (ap (λ x. has_place x p) e ∙ eq-eqb p p refl))
+-- a place that has no carrier is in nobody's cells
+pub nowhere : (cells : List (List (Option ℕ))) (p : ℕ) → carrier_of cells p ≡ None → (c : ℕ) → has_place (cells_of cells c) p ≡ false
+nowhere cells p e c =
+    ⊎_elim
+    (λ (l : c < length cells). fails_before_first (λ own. has_place own p) cells c [] (omega (arith, none_passes (λ own. has_place own p) cells e)))
+    (λ (l : length cells ≤ c). ap (λ own. has_place own p) (get_or_past cells c [] l))
+    (cases_lt c (length cells))
 
-is_not : (x : Option ℕ) (p : ℕ) → (x ≢ Some p) → has_place x p ≡ false
-is_not None p n = refl
-is_not (Some q) p n = ne_eqb q p (λ e. n (ap (λ w. Some w) e))
+-- a carrier that is found is one of the carriers, and has the place
+pub somewhere : (cells : List (List (Option ℕ))) (p c : ℕ) → carrier_of cells p ≡ Some c → (c < length cells) × (has_place (cells_of cells c) p ≡ true)
+somewhere cells p c e = let f = position-Some (λ own. has_place own p) cells c [] e in (f.0, f.1)
 
-pub cell_later : (xs : List (Option ℕ)) (j p : ℕ) → j < length xs → (slice_index_or xs j None ≢ Some p) → cell_of (drop (j + 1) xs) (j + 1) p ≡ cell_of (drop j xs) j p
-cell_later xs j p l n =
-    sym (at_drop_more (λ ys. cell_of ys j p) xs j None l ∙ cond-false (has_place (slice_index_or xs j None) p) (Some j) (cell_of (drop (j + 1) xs) (j + 1) p) (is_not (slice_index_or xs j None) p n))
-
-pub cell_end : (xs : List (Option ℕ)) (j p : ℕ) → length xs ≤ j → None ≡ cell_of (drop j xs) j p
-cell_end xs j p l = sym (at_drop_all (λ ys. cell_of ys j p) xs j l)
+-- where cells are apart, the carrier of a place is the one that has it
+pub carries : (cells : List (List (Option ℕ))) → Apart cells → (c p : ℕ) → is_holder (carrier_of cells p) c ≡ has_place (cells_of cells c) p
+carries cells apart c p = go (carrier_of cells p) refl
+  where
+    go : (found : Option ℕ) → carrier_of cells p ≡ found → is_holder found c ≡ has_place (cells_of cells c) p
+    go None e = sym (nowhere cells p e c)
+    go (Some d) e =
+        let here = (somewhere cells p d e).1 in
+        ⊎_elim
+        (λ (s : d ≡ c). eq-eqb d c s ∙ sym (subst (λ (k : ℕ). has_place (cells_of cells k) p ≡ true) s here))
+        (λ (n : d ≢ c).
+        ne_eqb d c n
+        ∙ sym (⊎_elim
+        (λ (b : has_place (cells_of cells c) p ≡ true).
+        let i = has_where (cells_of cells d) p here in
+        let j = has_where (cells_of cells c) p b in
+        absurd (n (apart d c i.0 j.0 p i.1 j.1).0))
+        (λ (b : has_place (cells_of cells c) p ≡ false). b)
+        (cases_Bool (has_place (cells_of cells c) p))))
+        (cases_eq d c)

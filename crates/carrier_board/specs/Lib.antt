@@ -1,4 +1,3 @@
 pub mod Cells
-pub mod Spreading
 pub mod Finding
-pub mod Parting
+pub mod Spreading

@@ -1,147 +1,82 @@
 -- The holders that the cells give.
-use Rattle.std.specs.Prelude.{◌≡◌, ℕ, zero, suc, ◌+◌, ◌*◌, ◌/◌, ◌<◌, ◌≤◌, Bool, true, false, cond, ◌≢◌, List, [], ◌∷◌, length, get_or, set, replicate, Some, None, Option, ◌==◌, slice_index_or, slice_set, refl}
-use Rattle.std.proofs.Common.{sym, ◌∙◌, ap, ⊎_elim, arith}
-use Rattle.std.specs.Option.{option_map}
-use Rattle.std.proofs.lemmas.List.{get_or-set_same, get_or-set_other, length-set, length-replicate, set-set, set_comm, set-get_or, get_or_past}
-use Rattle.std.proofs.lemmas.Bool.{cases_eq, cases_lt, eq-eqb, ne_eqb, cond-true, cond-false}
+use Rattle.std.specs.Prelude.{◌≡◌, ℕ, zero, suc, ◌+◌, ◌<◌, ◌≤◌, Bool, true, false, cond, ◌||◌, List, [], ◌∷◌, length, map, count_by, is_some, Some, None, Option, nat_eq, nat_lt, slice_index_or, refl}
+use Rattle.std.specs.List.{range_with_len}
+use Rattle.std.proofs.Common.{sym, ◌∙◌, ap, ⊎_elim, add-one, arith}
+use Rattle.std.proofs.lemmas.List.{get_or_past}
+use Rattle.std.proofs.lemmas.List.FromFn.{length-map-range_with_len, get_or-map-range_with_len, sum_by-map-range_with_len_more}
+use Rattle.std.proofs.lemmas.List.Sums.{count_by-le-length, sum_by-cons}
+use Rattle.std.proofs.lemmas.Bool.{cases_lt, cases_Bool}
 use Rattle.std.proofs.lemmas.Bool.Decides.{nat_tests}
-use Rattle.boards.specs.Holders.{holder_of, held, AllBelow, Known, AtMostTwo}
-use Rattle.boards.proofs.Holding.{held-set, held_none, free_none, none_below}
-use Rattle.carrier_board.specs.Cells.{cell_of, in_cell, spread, Apart}
-use Rattle.carrier_board.specs.Finding.{Absent, cell_none, cell_below}
-use Rattle.carrier_board.specs.Parting.{apart_rest, apart_first}
+use Rattle.boards.specs.Holders.{holder_of, held, is_holder, AllBelow, Known, AtMostTwo}
+use Rattle.boards.proofs.Holding.{one, held_sum, some_inside}
+use Rattle.carrier_board.specs.Cells.{cells_of, has_place, carrier_of, spread, Pairs, Within, Apart}
+use Rattle.carrier_board.specs.Finding.{has_where, somewhere, carries}
 
-abbrev pub half : ℕ → ℕ
-half j = j / 2
-
-pub length-spread : (n : ℕ) (xs : List (Option ℕ)) (k : ℕ) → length (spread n xs k) ≡ n
+pub length-spread : (n : ℕ) (cells : List (List (Option ℕ))) → length (spread n cells) ≡ n
 unfolding spread
-length-spread n [] k = length-replicate n None
-length-spread n (None ∷ xs) k = length-spread n xs (k + 1)
-length-spread n (Some p ∷ xs) k = length-set (spread n xs (k + 1)) p (Some (k / 2)) ∙ length-spread n xs (k + 1)
+length-spread n cells = length-map-range_with_len (carrier_of cells) 0 n
 
--- the holder of a place is the carrier whose cell has it
-holder_spread : (n : ℕ) (xs : List (Option ℕ)) (k p : ℕ) → p < n → holder_of (spread n xs k) p ≡ option_map half (cell_of xs k p)
+pub holder_spread : (n : ℕ) (cells : List (List (Option ℕ))) (p : ℕ) → p < n → holder_of (spread n cells) p ≡ carrier_of cells p
 unfolding spread
-holder_spread n [] k p h = free_none n p
-holder_spread n (None ∷ xs) k p h = holder_spread n xs (k + 1) p h
-holder_spread n (Some q ∷ xs) k p h =
-    let l : p < length (spread n xs (k + 1)) = omega (arith, length-spread n xs (k + 1)) in
+holder_spread n cells p l = get_or-map-range_with_len (carrier_of cells) 0 n p p None l (omega arith)
+
+pub known_spread : (n : ℕ) (cells : List (List (Option ℕ))) → length cells ≡ 32 → Known (spread n cells)
+known_spread n cells long p h e =
+    let l : p < n = omega (arith, some_inside (spread n cells) p h e, length-spread n cells) in
+    omega (arith, (somewhere cells p h (sym (holder_spread n cells p l) ∙ e)).0)
+
+-- how many numbers below n pass
+abbrev below : (ℕ → Bool) → ℕ → ℕ
+below test zero = 0
+below test (suc n) = below test n + cond (test n) 1 0
+
+below_same : (f g : ℕ → Bool) (n : ℕ) → ((i : ℕ) → f i ≡ g i) → below f n ≡ below g n
+below_same f g zero same = refl
+below_same f g (suc n) same = rw (same n, below_same f g n same)
+
+below_false : (n : ℕ) → below (λ p. false) n ≡ 0
+below_false zero = refl
+below_false (suc n) = omega (arith, below_false n)
+
+-- one more number that passes
+below_or : (test : ℕ → Bool) (q n : ℕ) → test q ≡ false → below (λ p. nat_eq q p || test p) n ≡ below test n + cond (nat_lt q n) 1 0
+below_or test q zero fails = grind (arith, nat_tests)
+below_or test q (suc n) fails = grind (arith, nat_tests, below_or test q n fails)
+
+-- as many numbers below n are in a carrier's cells as those cells have places
+below_own : (own : List (Option ℕ)) (n : ℕ) → AllBelow n own → ((i j p : ℕ) → slice_index_or own i None ≡ Some p → slice_index_or own j None ≡ Some p → i ≡ j) → below (has_place own) n ≡ count_by is_some own
+below_own [] n within apart = below_false n
+below_own (None ∷ own) n within apart =
+    below_own own n (λ i. within (suc i)) (λ i j p e f. omega (arith, apart (suc i) (suc j) p e f))
+below_own (Some q ∷ own) n within apart =
+    let rest = below_own own n (λ i. within (suc i)) (λ i j p e f. omega (arith, apart (suc i) (suc j) p e f)) in
     ⊎_elim
-    (λ (e : q ≡ p). ap (λ w. get_or (slice_set (spread n xs (k + 1)) w (Some (k / 2))) p None) e ∙ get_or-set_same (spread n xs (k + 1)) p (Some (k / 2)) None l ∙ ap (option_map half) (sym (cond-true (q == p) (Some k) (cell_of xs (k + 1) p) (eq-eqb q p e))))
-    (λ (e : q ≢ p). get_or-set_other (spread n xs (k + 1)) q p (Some (k / 2)) None (λ z. e (sym z)) ∙ holder_spread n xs (k + 1) p h ∙ ap (option_map half) (sym (cond-false (q == p) (Some k) (cell_of xs (k + 1) p) (ne_eqb q p e))))
-    (cases_eq q p)
+    (λ (b : has_place own q ≡ true). let w = has_where own q b in absurd (omega (arith, apart zero (suc w.0) q refl w.1)))
+    (λ (b : has_place own q ≡ false).
+    let l = within zero q refl in
+    let s : below (has_place own) n + cond (nat_lt q n) 1 0 ≡ 1 + count_by is_some own = grind (arith, nat_tests) in
+    below_or (has_place own) q n b ∙ s ∙ sym (sum_by-cons (λ cell. cond (is_some cell) 1 0) (Some q) own))
+    (cases_Bool (has_place own q))
 
--- the same, where the cell was looked for on a whole board
-pub holder_found : (n : ℕ) (xs : List (Option ℕ)) (p : ℕ) (found : Option ℕ) → p < n → found ≡ cell_of xs 0 p → holder_of (spread n xs 0) p ≡ option_map half found
-holder_found n xs p found l e = holder_spread n xs 0 p l ∙ ap (option_map half) (sym e)
+held_below : (f : ℕ → Option ℕ) (c n : ℕ) → held (map f (range_with_len 0 n)) c ≡ below (λ p. is_holder (f p) c) n
+held_below f c zero = held_sum [] c
+held_below f c (suc n) =
+    let more = rw add-one at (sum_by-map-range_with_len_more (λ h. one h c) f 0 n n (omega arith)) in
+    omega (arith, held_sum (map f (range_with_len 0 (suc n))) c, held_sum (map f (range_with_len 0 n)) c, held_below f c n)
 
--- how many of the cells, numbered from k on, are those of carrier c and have a place
-abbrev tally : List (Option ℕ) → ℕ → ℕ → ℕ
-tally [] k c = 0
-tally (x ∷ xs) k c = cond (k / 2 == c) (in_cell x) 0 + tally xs (k + 1) c
-
-cond_same : (b : Bool) → ◌≡◌ {A = ℕ} (cond b 0 0) 0
-cond_same true = refl
-cond_same false = refl
-
-held-spread : (n : ℕ) (xs : List (Option ℕ)) (k c : ℕ) → AllBelow n xs → Apart xs → held (spread n xs k) c ≡ tally xs k c
+-- a carrier holds as many places as its cells have
+pub held-cells : (n : ℕ) (cells : List (List (Option ℕ))) (c : ℕ) → Within n cells → Apart cells → held (spread n cells) c ≡ count_by is_some (cells_of cells c)
 unfolding spread
-held-spread n [] k c w a = held_none n c
-held-spread n (None ∷ xs) k c w a =
-    let i = held-spread n xs (k + 1) c (λ j p e. w (suc j) p e) (apart_rest None xs a) in
-    let z : cond (k / 2 == c) (in_cell None) 0 ≡ 0 = cond_same (k / 2 == c) in
-    omega arith
-held-spread n (Some q ∷ xs) k c w a =
-    let i = held-spread n xs (k + 1) c (λ j p e. w (suc j) p e) (apart_rest (Some q) xs a) in
-    let b : q < n = w zero q refl in
-    let l : q < length (spread n xs (k + 1)) = omega (arith, length-spread n xs (k + 1)) in
-    let free = holder_spread n xs (k + 1) q b ∙ ap (option_map half) (cell_none xs (k + 1) q (apart_first q xs a)) in
-    omega (arith, held-set (spread n xs (k + 1)) q None (Some (k / 2)) c l free)
+held-cells n cells c within apart =
+    held_below (carrier_of cells) c n
+    ∙ below_same (λ p. is_holder (carrier_of cells p) c) (has_place (cells_of cells c)) n (carries cells apart c)
+    ∙ below_own (cells_of cells c) n (within c) (λ i j p e f. (apart c c i j p e f).1)
 
--- how many places cell i has, of the cells numbered from k on
-abbrev places_at : List (Option ℕ) → ℕ → ℕ → ℕ
-places_at [] k i = 0
-places_at (x ∷ xs) k i = cond (k == i) (in_cell x) 0 + places_at xs (k + 1) i
-
-tally_two : (xs : List (Option ℕ)) (k c : ℕ) → tally xs k c ≡ places_at xs k (2 * c) + places_at xs k (2 * c + 1)
-tally_two [] k c = refl
-tally_two (x ∷ xs) k c =
-    let i = tally_two xs (k + 1) c in
-    let h : cond (k / 2 == c) (in_cell x) 0 ≡ cond (k == 2 * c) (in_cell x) 0 + cond (k == 2 * c + 1) (in_cell x) 0 = grind (arith, nat_tests) in
-    omega arith
-
-places_at_past : (xs : List (Option ℕ)) (k i : ℕ) → i < k → places_at xs k i ≡ 0
-places_at_past [] k i h = refl
-places_at_past (x ∷ xs) k i h =
-    let e = cond-false (k == i) (in_cell x) 0 (ne_eqb k i (omega arith)) in
-    omega (arith, places_at_past xs (k + 1) i (omega arith))
-
-places_at_number : (xs : List (Option ℕ)) (k i : ℕ) → places_at xs k (k + i) ≡ in_cell (slice_index_or xs i None)
-places_at_number [] k i = refl
-places_at_number (x ∷ xs) k zero =
-    let e = cond-true (k == k + 0) (in_cell x) 0 (eq-eqb k (k + 0) (omega arith)) in
-    omega (arith, places_at_past xs (k + 1) (k + 0) (omega arith))
-places_at_number (x ∷ xs) k (suc i) =
-    let e = cond-false (k == k + suc i) (in_cell x) 0 (ne_eqb k (k + suc i) (omega arith)) in
-    let s : places_at xs (k + 1) (k + suc i) ≡ places_at xs (k + 1) (k + 1 + i) = ap (λ w. places_at xs (k + 1) w) (omega arith) in
-    omega (arith, places_at_number xs (k + 1) i)
-
--- a carrier holds as many places as its two cells have
-pub held-cells : (n : ℕ) (xs : List (Option ℕ)) (c : ℕ) → AllBelow n xs → Apart xs → held (spread n xs 0) c ≡ in_cell (slice_index_or xs (2 * c) None) + in_cell (slice_index_or xs (2 * c + 1) None)
-held-cells n xs c w a =
-    let f : places_at xs 0 (2 * c) ≡ in_cell (slice_index_or xs (2 * c) None) = ap (λ w. places_at xs 0 w) (omega arith) ∙ places_at_number xs 0 (2 * c) in
-    let s : places_at xs 0 (2 * c + 1) ≡ in_cell (slice_index_or xs (2 * c + 1) None) = ap (λ w. places_at xs 0 w) (omega arith) ∙ places_at_number xs 0 (2 * c + 1) in
-    omega (arith, held-spread n xs 0 c w a, tally_two xs 0 c)
-
-in_cell_one : (x : Option ℕ) → in_cell x ≤ 1
-in_cell_one None = omega arith
-in_cell_one (Some p) = omega arith
-
-pub few_spread : (n : ℕ) (xs : List (Option ℕ)) → AllBelow n xs → Apart xs → AtMostTwo (spread n xs 0)
-few_spread n xs w a c = omega (arith, held-cells n xs c w a, in_cell_one (slice_index_or xs (2 * c) None), in_cell_one (slice_index_or xs (2 * c + 1) None))
-
-half_below : (o : Option ℕ) (h m : ℕ) → ((j : ℕ) → o ≡ Some j → j < 2 * m) → option_map half o ≡ Some h → h < m
-half_below None h m f e = let z : ◌≡◌ {A = ℕ} 0 1 = cc in omega arith
-half_below (Some j) h m f e = let z : j / 2 ≡ h = cc in omega (arith, f j refl)
-
-pub known_spread : (n : ℕ) (xs : List (Option ℕ)) → length xs ≡ 64 → Known (spread n xs 0)
-known_spread n xs l p h e =
+pub few_spread : (n : ℕ) (cells : List (List (Option ℕ))) → Pairs cells → Within n cells → Apart cells → AtMostTwo (spread n cells)
+few_spread n cells pairs within apart c =
+    let e = held-cells n cells c within apart in
+    let l = count_by-le-length is_some (cells_of cells c) in
     ⊎_elim
-    (λ (b : p < n). half_below (cell_of xs 0 p) h 32 (λ j s. omega (arith, cell_below xs 0 p j s)) (sym (holder_spread n xs 0 p b) ∙ e))
-    (λ (b : n ≤ p). none_below 32 h (sym (get_or_past (spread n xs 0) p None (omega (arith, length-spread n xs 0))) ∙ e))
-    (cases_lt p n)
-
--- a place that is in no cell, written into a free one
-pub spread-set : (n : ℕ) (xs : List (Option ℕ)) (k j p : ℕ) → j < length xs → slice_index_or xs j None ≡ None → Absent xs p → spread n (slice_set xs j (Some p)) k ≡ slice_set (spread n xs k) p (Some ((k + j) / 2))
-unfolding spread
-spread-set n [] k j p l f a = absurd (omega arith)
-spread-set n (None ∷ xs) k zero p l f a = ap (λ w. set (spread n xs (k + 1)) p (Some (w / 2))) (omega arith)
-spread-set n (Some q ∷ xs) k zero p l f a = let z : ◌≡◌ {A = ℕ} 0 1 = cc in absurd (omega arith)
-spread-set n (None ∷ xs) k (suc j) p l f a =
-    spread-set n xs (k + 1) j p (omega arith) f (λ i e. a (suc i) e) ∙ ap (λ w. set (spread n xs (k + 1)) p (Some (w / 2))) (omega arith)
-spread-set n (Some q ∷ xs) k (suc j) p l f a =
-    ap (λ w. set w q (Some (k / 2))) (spread-set n xs (k + 1) j p (omega arith) f (λ i e. a (suc i) e))
-    ∙ set_comm (spread n xs (k + 1)) p q (Some ((k + 1 + j) / 2)) (Some (k / 2)) (λ e. a zero (ap (λ w. Some w) (sym e)))
-    ∙ ap (λ w. set (slice_set (spread n xs (k + 1)) q (Some (k / 2))) p (Some (w / 2))) (omega arith)
-
--- a place taken out of its cell
-pub spread_clear : (n : ℕ) (xs : List (Option ℕ)) (k j p : ℕ) → p < n → slice_index_or xs j None ≡ Some p → Apart xs → spread n (slice_set xs j None) k ≡ slice_set (spread n xs k) p None
-unfolding spread
-spread_clear n [] k j p l f a = let z : ◌≡◌ {A = ℕ} 0 1 = cc in absurd (omega arith)
-spread_clear n (None ∷ xs) k zero p l f a = let z : ◌≡◌ {A = ℕ} 0 1 = cc in absurd (omega arith)
-spread_clear n (Some q ∷ xs) k zero p l f a =
-    let d : q ≡ p = cc in
-    let free = holder_spread n xs (k + 1) q (omega arith) ∙ ap (option_map half) (cell_none xs (k + 1) q (apart_first q xs a)) in
-    let E = spread n xs (k + 1) in
-    sym (set-get_or E q None) ∙ ap (λ w. set E q w) free ∙ sym (set-set E q (Some (k / 2)) None) ∙ ap (λ w. set (slice_set E q (Some (k / 2))) w None) d
-spread_clear n (None ∷ xs) k (suc j) p l f a = spread_clear n xs (k + 1) j p l f (apart_rest None xs a)
-spread_clear n (Some q ∷ xs) k (suc j) p l f a =
-    ap (λ w. set w q (Some (k / 2))) (spread_clear n xs (k + 1) j p l f (apart_rest (Some q) xs a))
-    ∙ set_comm (spread n xs (k + 1)) p q None (Some (k / 2)) (λ e. apart_first q xs a j (f ∙ ap (λ w. Some w) e))
-
--- free cells spread nothing
-pub spread_none : (n m k : ℕ) → spread n (replicate m None) k ≡ replicate n None
-unfolding spread
-spread_none n zero k = refl
-spread_none n (suc m) k = spread_none n m (k + 1)
+    (λ (b : c < length cells). omega (arith, pairs c b))
+    (λ (b : length cells ≤ c). omega (arith, ap length (get_or_past cells c [] b)))
+    (cases_lt c (length cells))

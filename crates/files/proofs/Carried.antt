@@ -187,7 +187,7 @@ unfolding carriers_at
 routes_ok bytes at size room zero rs p h = both_ok (follows_at bytes at) _ rs h go
   where
     go : (v : Bool) → follows_at bytes at ≡ Ok v → cond v (Err (OutOfRange at)) (end_at bytes at) ≡ Ok rs → Routes bytes at size room 0 rs
-    go true a h = let z : ◌≡◌ {A = ℕ} 0 1 = cc in absurd (omega arith)
+    go true a h = cc
     go false a h = end_ok bytes at size room 0 rs a h
 routes_ok bytes at size room (suc left) rs p h = both_ok (follows_at bytes at) _ rs h (go (λ r more. routes_ok bytes (at + (8 + 2 * length r.path)) size (room - length r.path) left more p))
   where

@@ -1,6 +1,6 @@
 -- Numbers of a file: what is read is what was written, and back.
-use Rattle.std.proofs.Common.{◌≡◌, ℕ, suc, ◌+◌, ◌-◌, ◌*◌, ◌/◌, ◌%◌, ◌≤◌, Bool, true, false, ◌&&◌, leb, List, ◌∷◌, ◌++◌, length, get_or, drop, Ok, Err, Result, sym, refl, ap, ◌∙◌, arith, drop-cons}
-use Rattle.std.proofs.lemmas.List.{length-drop, get_or-drop, drop-drop}
+use Rattle.std.proofs.Common.{◌≡◌, ℕ, suc, ◌+◌, ◌-◌, ◌*◌, ◌/◌, ◌%◌, ◌≤◌, Bool, true, false, ◌&&◌, leb, List, ◌∷◌, ◌++◌, length, get_or, drop, Ok, Err, Result, sym, refl, ap, ◌∙◌, arith}
+use Rattle.std.proofs.lemmas.List.{length-drop, get_or-drop, drop-drop, drop_more}
 use Rattle.std.proofs.lemmas.Bool.{and_parts, leb-true, le-leb}
 use Rattle.std.proofs.lemmas.Bool.Decides.{nat_tests}
 use Rattle.files.specs.declared.faults.FileFault.{FileFault}
@@ -11,17 +11,17 @@ use Rattle.files.specs.Laws.{Bytes}
 
 -- no test comes out both ways
 pub true_false : {b : Bool} → b ≡ true → b ≡ false → ⊥
-true_false p q = let z : ◌≡◌ {A = ℕ} 0 1 = cc in omega arith
+true_false p q = cc
 
 -- what was read went well in both its parts
 pub both_ok : {X Y G : Type 0} (r : Result X FileFault) (f : X → Result Y FileFault) (y : Y) → (r >>= f) ≡ Ok y → ((x : X) → r ≡ Ok x → f x ≡ Ok y → G) → G
 both_ok (Ok x) f y h k = k x refl h
-both_ok (Err e) f y h k = let z : ◌≡◌ {A = ℕ} 0 1 = cc in absurd (omega arith)
+both_ok (Err e) f y h k = cc
 
 -- a test was passed
 pub guard_ok : (b : Bool) (e : FileFault) (u : Unit {0}) → guard b e ≡ Ok u → b ≡ true
 guard_ok true e u h = refl
-guard_ok false e u h = let z : ◌≡◌ {A = ℕ} 0 1 = cc in absurd (omega arith)
+guard_ok false e u h = cc
 
 -- a number was read, and is within its range
 pub record Ranged (bytes : List ℕ) (mark at least most v : ℕ) : Type 0 where
@@ -44,10 +44,8 @@ ranged_of bytes mark at least most v e l m = rw (e, le-leb least v l, le-leb v m
 
 two_more : (bytes : List ℕ) (at : ℕ) → at + 2 ≤ length bytes → drop at bytes ≡ get_or bytes at 0 ∷ (get_or bytes (at + 1) 0 ∷ drop (at + 2) bytes)
 two_more bytes at h =
-    let a : suc at ≡ at + 1 = omega arith in
-    let b : suc (at + 1) ≡ at + 2 = omega arith in
-    let d : drop (at + 1) bytes ≡ get_or bytes (at + 1) 0 ∷ drop (at + 2) bytes = rw (← b) (drop-cons bytes (at + 1) 0 (omega arith)) in
-    drop-cons bytes at 0 (omega arith) ∙ rw (a, d) refl
+    let e : at + 1 + 1 ≡ at + 2 = omega arith in
+    drop_more bytes at 0 (omega arith) ∙ rw (drop_more bytes (at + 1) 0 (omega arith), e) refl
 
 -- where a number was read, its bytes stand
 pub number_bytes : (bytes : List ℕ) (mark at v : ℕ) → Bytes bytes → number_at bytes mark at ≡ Ok v → drop at bytes ≡ two v ++ drop (at + 2) bytes

@@ -182,8 +182,7 @@ floor_ok bytes f h = both_ok (number_at bytes 0 0) _ f h (λ m a h. go m a h (ca
     go m a h (inl e) k = marked_floor 0x4652 bytes f (a ∙ ap (λ m. Ok m) e) (rail_ok bytes f (rw (eq-eqb m 0x4652 e) at h))
     go m a h (inr e) (inl k) = marked_floor 0x4648 bytes f (a ∙ ap (λ m. Ok m) k) (hall_ok bytes f (rw (ne_eqb m 0x4652 e, eq-eqb m 0x4648 k) at h))
     go m a h (inr e) (inr k) =
-        let x : Err (WrongMark 0) ≡ Ok f = rw (ne_eqb m 0x4652 e, ne_eqb m 0x4648 k) at h in
-        let z : ◌≡◌ {A = ℕ} 0 1 = cc in absurd (omega arith)
+        let x : Err (WrongMark 0) ≡ Ok f = rw (ne_eqb m 0x4652 e, ne_eqb m 0x4648 k) at h in cc
 
 -- a plan that was read
 pub record File (bytes : List ℕ) (p : Plan) : Type 0 where

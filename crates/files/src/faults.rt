@@ -40,6 +40,7 @@ impl From<FileFault> for ReadFault {
     }
 }
 
+// Kept: written out for either error of memory, since a derived `From` says nothing of what `?` makes of it.
 impl From<AllocError> for ReadFault {
     ghost from_gives = { λ _ r. r ≡ Memory };
 

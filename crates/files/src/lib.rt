@@ -2,12 +2,13 @@
 #![tactic(auto)]
 
 mod carriers;
+mod cursor;
 mod decode;
 pub mod draft;
 pub mod faults;
 mod hall;
 pub mod laws;
-mod numbers;
+mod marks;
 mod rail;
 pub mod read;
 pub mod refused;

@@ -2,10 +2,9 @@ ghost use Rattle.files.specs.Reading.{Reads};
 
 use crate::decode::decode;
 use crate::draft::{Draft, ReadRefused};
-use crate::faults::ReadFault;
 use plans::plans::ReadPlan;
 use plans::rows::CarrierRow;
-use plans::tables::{Tables, TablesRefused};
+use plans::tables::Tables;
 use std::alloc::Global;
 
 /// Reads a file into a plan, which takes both tables: at least 2,048 entries and 32 rows.
@@ -17,37 +16,13 @@ pub fn read(
 ) -> Result<ReadPlan, ReadRefused>
     ensures { Reads bytes.now entries rows result }
 {
-    let tables = match Tables::new(entries, rows) {
-        Ok(tables) => tables,
-        Err(refused) => {
-            let TablesRefused {
-                entries,
-                rows,
-                short,
-            } = refused;
-            let fault = ReadFault::Short(short);
-            return Err(ReadRefused {
-                entries,
-                rows,
-                fault,
-            });
-        }
+    let tables = Tables::new(entries, rows)?;
+    let Draft { floor, carriers } = match decode(heap, bytes) {
+        Ok(draft) => draft,
+        Err(fault) => return Err(ReadRefused::new(tables, fault)),
     };
-    match decode(heap, bytes) {
-        Ok(draft) => {
-            let Draft { floor, carriers } = draft;
-            match ReadPlan::new(floor, &carriers, tables) {
-                Ok(plan) => Ok(plan),
-                Err(_) => unreachable(),
-            }
-        }
-        Err(fault) => {
-            let (entries, rows) = tables.into_parts();
-            Err(ReadRefused {
-                entries,
-                rows,
-                fault,
-            })
-        }
-    }
+    let Ok(plan) = ReadPlan::new(floor, &carriers, tables) else {
+        unreachable()
+    };
+    Ok(plan)
 }

@@ -1,9 +1,12 @@
 //! Why a floor is not made.
 
-ghost use Rattle.std.specs.Prelude.{◌≡◌};
+ghost use Rattle.std.specs.Prelude.{◌≡◌, Some};
 ghost use Rattle.floors.specs.declared.faults.FloorFault.TheVariants.{Memory};
+ghost use Rattle.floors.specs.Faults.{spelt_fault};
 
 use std::alloc::{AllocError, AllocFailed};
+use std::error::Error;
+use std::fmt;
 
 #[derive(Clone, Copy, PartialEq, Eq, Debug)]
 pub enum FloorFault {
@@ -13,6 +16,20 @@ pub enum FloorFault {
     Memory,
 }
 
+impl fmt::Display for FloorFault {
+    ghost output = { λ f. Some (spelt_fault f) };
+
+    fn fmt<W: fmt::Write>(&self, f: &mut fmt::Formatter<W>) -> fmt::Result {
+        match self {
+            FloorFault::Unfit => write!(f, "no such floor"),
+            FloorFault::Memory => write!(f, "no memory"),
+        }
+    }
+}
+
+impl Error for FloorFault {}
+
+// Kept: written out for either error of memory, since a derived `From` says nothing of what `?` makes of it.
 impl From<AllocError> for FloorFault {
     ghost from_gives = { λ _ r. r ≡ Memory };
 

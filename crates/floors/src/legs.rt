@@ -7,9 +7,7 @@ use crate::floor::Floor;
 pub fn leg_count<F: Floor>(floor: &F) -> usize
     ensures { result ≡ legs_below (F.exits floor.now) (F.size floor.now) }
 {
-    let mut legs = 0;
-    for place in 0..floor.place_count() {
-        legs += usize::from(floor.exit_count(place));
-    }
-    legs
+    (0..floor.place_count())
+        .map(|place| usize::from(floor.exit_count(place)))
+        .sum()
 }

@@ -8,13 +8,9 @@ use std::io::Read;
 /// change the answer.
 const LIMIT: u64 = 65_536;
 
-fn run(rt: &HostRuntime) -> anyhow::Result<()> {
+fn main(rt: HostRuntime) -> anyhow::Result<()> {
     let mut input = Vec::new(rt.alloc());
     rt.stdin().take(LIMIT).read_to_end(&mut input)?;
     rt.println(answer(rt.alloc(), &input)?)?;
     Ok(())
-}
-
-fn main(rt: HostRuntime) -> anyhow::Result<()> {
-    run(&rt)
 }

@@ -1,6 +1,6 @@
 -- The legs of a hall join the open cells that share a side, and are as long as the pitches.
 use Rattle.std.proofs.Common.{◌≡◌, ℕ, ◌≤◌, true, ◌⊎◌, is_some, Some, None, Option, sym, refl, ap, ◌∙◌, inl, inr, arith}
-use Rattle.std.proofs.lemmas.Bool.{and_parts, and_from, ltb-true, lt-ltb, not-true, not_from_false}
+use Rattle.std.proofs.lemmas.Bool.{false≢true, and_parts, and_from, ltb-true, lt-ltb, not-true, not_from_false}
 use Rattle.hall_floor.specs.declared.sides.Side.{Side}
 use Rattle.hall_floor.specs.declared.sides.Side.TheVariants.{North, West, East, South}
 use Rattle.hall_floor.specs.Halls.{Hall, is_open, pitch, hall_length}
@@ -55,7 +55,7 @@ column_pitch h some c d East l s = absurd (omega (arith, right_column h.width c 
 column_pitch h some c d South l s = refl
 
 some_value : (o : Option ℕ) → is_some o ≡ true → (n : ℕ) × (o ≡ Some n)
-some_value None e = let z : ◌≡◌ {A = ℕ} 0 1 = cc in absurd (omega arith)
+some_value None e = absurd (false≢true e)
 some_value (Some n) e = (n, refl)
 
 pub lengths_fit : LengthsArePitches

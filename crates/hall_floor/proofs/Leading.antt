@@ -2,10 +2,11 @@
 use Rattle.std.proofs.Common.{◌≡◌, ℕ, ◌<◌, ◌≤◌, true, List, [], ◌∷◌, Some, None, Option, refl, nat_eq, ◌==◌, arith}
 use Rattle.std.proofs.lemmas.Bool.Decides.{nat_tests}
 use Rattle.std.proofs.lemmas.Bool.{eq-eqb, or_right}
+use Rattle.std.specs.List.{cons_option}
 use Rattle.floors.specs.Exits.{has}
 use Rattle.hall_floor.specs.declared.sides.Side.{Side}
 use Rattle.hall_floor.specs.declared.sides.Side.TheVariants.{North, West, East, South}
-use Rattle.hall_floor.specs.Halls.{Hall, cells, is_open, beyond, over, sides, listed, exits_over, hall_exits}
+use Rattle.hall_floor.specs.Halls.{Hall, cells, is_open, beyond, over, sides, exits_over, hall_exits}
 use Rattle.hall_floor.specs.Grid.{right_column}
 use Rattle.hall_floor.specs.Legs.{Lies, over_open, over_lies, has_over}
 
@@ -41,7 +42,7 @@ has_more : (h : Hall) (c d : ℕ) (side : Side) (ss : List Side) → has d (exit
 unfolding has
 has_more h c d side ss e = listed_more (over h c side)
   where
-    listed_more : (o : Option ℕ) → has d (listed o (exits_over h c ss)) ≡ true
+    listed_more : (o : Option ℕ) → has d (cons_option o (exits_over h c ss)) ≡ true
     listed_more None = e
     listed_more (Some x) = or_right (d == x) (has d (exits_over h c ss)) e
 

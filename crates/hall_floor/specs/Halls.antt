@@ -1,5 +1,7 @@
 -- A hall: cells in rows and columns, numbered row by row, some of them blocked.
-use Rattle.std.specs.Prelude.{ℕ, ◌+◌, ◌-◌, ◌*◌, ◌/◌, ◌%◌, ◌^◌, Bool, false, cond, not, ◌&&◌, List, [], ◌∷◌, length, Some, None, Option, ◌==◌, nat_le, nat_lt, slice_index}
+use Rattle.std.specs.Prelude.{ℕ, ◌+◌, ◌-◌, ◌*◌, ◌/◌, ◌%◌, ◌^◌, Bool, cond, not, ◌&&◌, List, [], ◌∷◌, length, Some, None, Option, ◌==◌, nat_eq, nat_le, nat_lt, slice_index}
+use Rattle.std.specs.List.{filter_map, find}
+use Rattle.std.specs.Option.{option_eq, option_map}
 use Rattle.hall_floor.specs.declared.sides.Side.{Side}
 use Rattle.hall_floor.specs.declared.sides.Side.TheVariants.{North, West, East, South}
 
@@ -58,15 +60,9 @@ over h c side = cond (is_open h c) (if_open h (beyond h c side)) None
 abbrev pub sides : List Side
 sides = North ∷ West ∷ East ∷ South ∷ []
 
--- a cell, if there is one, before other cells
-abbrev pub listed : Option ℕ → List ℕ → List ℕ
-listed None more = more
-listed (Some c) more = c ∷ more
-
 -- where the legs over these sides of a cell lead
 abbrev pub exits_over : Hall → ℕ → List Side → List ℕ
-exits_over h c [] = []
-exits_over h c (side ∷ more) = listed (over h c side) (exits_over h c more)
+exits_over h c ss = filter_map (over h c) ss
 
 -- the cells to which the legs of a cell lead
 unfoldable pub hall_exits : Hall → ℕ → List ℕ
@@ -81,13 +77,11 @@ pitch h South = h.down
 
 -- whether there is a cell, and it is this one
 abbrev pub is_cell : Option ℕ → ℕ → Bool
-is_cell None c = false
-is_cell (Some d) c = d == c
+is_cell o c = option_eq nat_eq o (Some c)
 
 -- how long the leg over one of these sides of a cell to another cell is, if one leads there
 abbrev pub length_over : Hall → ℕ → ℕ → List Side → Option ℕ
-length_over h c d [] = None
-length_over h c d (side ∷ more) = cond (is_cell (over h c side) d) (Some (pitch h side)) (length_over h c d more)
+length_over h c d ss = option_map (pitch h) (find (λ side. is_cell (over h c side) d) ss)
 
 -- how long the leg from a cell to another is, if one leads there
 unfoldable pub hall_length : Hall → ℕ → ℕ → Option ℕ

@@ -1,12 +1,15 @@
 -- Where the legs over the sides of a cell lead.
-use Rattle.std.specs.Prelude.{◌≡◌, ℕ, zero, suc, ◌-◌, ◌%◌, ◌<◌, ◌≤◌, Bool, true, false, cond, ◌⊎◌, List, [], ◌∷◌, length, is_some, Some, None, Option, ◌≢◌, nat_eq, nat_lt, slice_index, refl}
+use Rattle.std.specs.Prelude.{◌≡◌, ℕ, zero, suc, ◌-◌, ◌%◌, ◌<◌, ◌≤◌, Bool, true, false, cond, ◌⊎◌, List, [], ◌∷◌, length, is_some, Some, None, Option, nat_eq, nat_lt, slice_index, refl}
 use Rattle.std.proofs.Common.{sym, ap, inl, inr, arith}
 use Rattle.std.proofs.lemmas.Bool.Decides.{nat_tests}
-use Rattle.std.proofs.lemmas.Bool.{cases_Bool, cases_eq, eq-eqb, ne_eqb, le-ltb, and_parts, ltb-true, eqb-true}
+use Rattle.std.proofs.lemmas.Option.{none-some, same_Some, cond_some}
+use Rattle.std.proofs.lemmas.Bool.{false≢true, cases_Bool, cases_eq, eq-eqb, ne_eqb, le-ltb, and_parts, ltb-true, eqb-true}
+use Rattle.std.specs.List.{cons_option, find}
+use Rattle.std.specs.Option.{option_map}
 use Rattle.floors.specs.Exits.{has, Rises}
 use Rattle.hall_floor.specs.declared.sides.Side.{Side}
 use Rattle.hall_floor.specs.declared.sides.Side.TheVariants.{North, West, East, South}
-use Rattle.hall_floor.specs.Halls.{Hall, cells, is_open, beyond, if_open, over, sides, listed, exits_over, hall_exits, pitch, is_cell, length_over, hall_length, fits_hall}
+use Rattle.hall_floor.specs.Halls.{Hall, cells, is_open, beyond, if_open, over, sides, exits_over, hall_exits, pitch, is_cell, length_over, hall_length, fits_hall}
 use Rattle.hall_floor.specs.Fitting.{pitch_some, pitch_most}
 use Rattle.hall_floor.specs.Grid.{RightOf, Below, right_before}
 
@@ -17,20 +20,16 @@ Lies h c d West = RightOf h.width c d
 Lies h c d East = RightOf h.width d c
 Lies h c d South = Below h.width d c
 
-none_some : {d : ℕ} → None ≢ Some d
-none_some e = let z : ◌≡◌ {A = ℕ} 0 1 = cc in omega arith
-
 -- what a test and then a choice gave, if it gave something
 picked : {X : Type 0} (b : Bool) (o : Option X) (x : X) → cond b o None ≡ Some x → (b ≡ true) × (o ≡ Some x)
 picked true o x e = (refl, e)
-picked false o x e = let z : ◌≡◌ {A = ℕ} 0 1 = cc in absurd (omega arith)
+picked false o x e = absurd (none-some x e)
 
 open_some : (h : Hall) (o : Option ℕ) (d : ℕ) → if_open h o ≡ Some d → (o ≡ Some d) × (is_open h d ≡ true)
-open_some h None d e = absurd (none_some e)
+open_some h None d e = absurd (none-some d e)
 open_some h (Some x) d e =
-    let p = picked (is_open h x) (Some x) d e in
-    let same : x ≡ d = cc in
-    (p.1, rw same at p.0)
+    let p = cond_some (is_open h x) x d e in
+    (ap (λ (y : ℕ). Some y) p.1, rw p.1 at p.0)
 
 -- where a leg over a side leads: to the cell beyond it, and both cells are open
 pub over_open : (h : Hall) (c d : ℕ) (side : Side) → over h c side ≡ Some d → (is_open h c ≡ true) × (beyond h c side ≡ Some d) × (is_open h d ≡ true)
@@ -51,17 +50,17 @@ over_lies h some c d side e = beyond_lies side (over_open h c d side e).1
     beyond_lies North k = grind (arith, nat_tests)
     beyond_lies West k =
         elim (cases_eq (c % h.width) 0) as (λ _. RightOf h.width c d) [
-          | inl first ↦ let none : nat_eq (c % h.width) 0 ≡ true = eq-eqb _ _ first in absurd (none_some (rw none at k))
+          | inl first ↦ let none : nat_eq (c % h.width) 0 ≡ true = eq-eqb _ _ first in absurd (none-some d (rw none at k))
           | inr inner ↦
               let one : nat_eq (c % h.width) 0 ≡ false = ne_eqb _ _ inner in
               let same : Some (c - 1) ≡ Some d = rw one at k in
-              let before : c - 1 ≡ d = cc in
+              let before = same_Some (c - 1) d same in
               rw before at (right_before h.width c some inner)
         ]
     beyond_lies East k = (grind (arith, nat_tests), grind (arith, nat_tests))
     beyond_lies South k = grind (arith, nat_tests)
 
-has_listed : (d : ℕ) (o : Option ℕ) (xs : List ℕ) → has d (listed o xs) ≡ true → (o ≡ Some d) ⊎ (has d xs ≡ true)
+has_listed : (d : ℕ) (o : Option ℕ) (xs : List ℕ) → has d (cons_option o xs) ≡ true → (o ≡ Some d) ⊎ (has d xs ≡ true)
 unfolding has
 has_listed d None xs e = inr e
 has_listed d (Some x) xs e =
@@ -72,7 +71,7 @@ has_listed d (Some x) xs e =
 
 pub has_over : (h : Hall) (c d : ℕ) (ss : List Side) → has d (exits_over h c ss) ≡ true → (side : Side) × (over h c side ≡ Some d)
 unfolding has
-has_over h c d [] e = let z : ◌≡◌ {A = ℕ} 0 1 = cc in absurd (omega arith)
+has_over h c d [] e = absurd (false≢true e)
 has_over h c d (side ∷ ss) e =
     elim (has_listed d (over h c side) (exits_over h c ss) e) [ inl here ↦ (side, here) | inr more ↦ has_over h c d ss more ]
 
@@ -88,7 +87,7 @@ Above x ys = (i : ℕ) → i < length ys → x < slice_index ys i
 above_none : (x : ℕ) → Above x []
 above_none x i k = absurd (omega arith)
 
-above_listed : (x : ℕ) (o : Option ℕ) (ys : List ℕ) → ((y : ℕ) → o ≡ Some y → x < y) → Above x ys → Above x (listed o ys)
+above_listed : (x : ℕ) (o : Option ℕ) (ys : List ℕ) → ((y : ℕ) → o ≡ Some y → x < y) → Above x ys → Above x (cons_option o ys)
 above_listed x None ys head tail i k = tail i k
 above_listed x (Some y) ys head tail zero k = head y refl
 above_listed x (Some y) ys head tail (suc i) k = tail i (omega arith)
@@ -96,7 +95,7 @@ above_listed x (Some y) ys head tail (suc i) k = tail i (omega arith)
 rises_none : Rises []
 rises_none i j l k = absurd (omega arith)
 
-rises_listed : (o : Option ℕ) (ys : List ℕ) → ((x : ℕ) → o ≡ Some x → Above x ys) → Rises ys → Rises (listed o ys)
+rises_listed : (o : Option ℕ) (ys : List ℕ) → ((x : ℕ) → o ≡ Some x → Above x ys) → Rises ys → Rises (cons_option o ys)
 rises_listed None ys head tail i j l k = tail i j l k
 rises_listed (Some x) ys head tail i zero l k = absurd (omega arith)
 rises_listed (Some x) ys head tail zero (suc j) l k = head x refl j (omega arith)
@@ -158,7 +157,7 @@ length-led h c d [] = refl
 length-led h c d (side ∷ ss) = step (over h c side) (length-led h c d ss)
   where
     step : (o : Option ℕ) → is_some (length_over h c d ss) ≡ has d (exits_over h c ss)
-        → is_some (cond (is_cell o d) (Some (pitch h side)) (length_over h c d ss)) ≡ has d (listed o (exits_over h c ss))
+        → is_some (option_map (pitch h) (cond (is_cell o d) (Some side) (find (λ s. is_cell (over h c s) d) ss))) ≡ has d (cons_option o (exits_over h c ss))
     step None more = more
     step (Some x) more = grind (arith, nat_tests)
 
@@ -167,12 +166,12 @@ unfolding hall_exits hall_length
 lengths_led h c d = length-led h c d sides
 
 cell_some : (o : Option ℕ) (d : ℕ) → is_cell o d ≡ true → o ≡ Some d
-cell_some None d e = let z : ◌≡◌ {A = ℕ} 0 1 = cc in absurd (omega arith)
+cell_some None d e = absurd (false≢true e)
 cell_some (Some x) d e = ap (λ (y : ℕ). Some y) (eqb-true x d e)
 
 -- a length is the pitch of a side over which a leg leads
 length_pitch : (h : Hall) (c d n : ℕ) (ss : List Side) → length_over h c d ss ≡ Some n → (side : Side) × (over h c side ≡ Some d) × (pitch h side ≡ n)
-length_pitch h c d n [] e = absurd (none_some e)
+length_pitch h c d n [] e = absurd (none-some n e)
 length_pitch h c d n (side ∷ ss) e =
     elim (cases_Bool (is_cell (over h c side) d)) [
       | inl here ↦

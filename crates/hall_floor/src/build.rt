@@ -5,31 +5,22 @@ ghost use Rattle.hall_floor.specs.Held.{MakesHall};
 use crate::hall::HallFloor;
 use floors::faults::FloorFault;
 
-/// Whether there is one bit for each of so many cells, and the spare bits of the last byte are 0.
-fn bits_fit(bits: &[u8], cells: usize) -> bool
-    requires { (1 ≤ cells) × (cells ≤ 1024) }
-    ensures { result ≡ (length bits.now == bytes_for cells && spare_free cells bits.now) }
+/// How many bytes have a bit for each of so many cells.
+pub fn bytes_for(cells: usize) -> usize
+    ensures { result ≡ bytes_for cells }
 {
-    let count = (cells + 7) / 8;
-    if bits.len() != count {
-        return false;
-    }
-    let used = (cells - 1) % 8 + 1;
-    u16::from(bits[count - 1]) < 1u16 << used
+    cells.div_ceil(8)
 }
 
-/// Whether these values are a hall.
-fn hall_fits(width: u16, height: u16, across: u16, down: u16, bits: &[u8]) -> bool
-    ensures { result ≡ fits_hall (record { width = width; height = height; across = across; down = down; blocked = bits.now }) }
+/// Whether the bits of the last byte that are no cell's are 0.
+pub fn spare_free(cells: usize, bytes: &[u8]) -> bool
+    ensures { result ≡ spare_free cells bytes.now }
 {
-    if width < 1 || width > 1024 || height < 1 || height > 1024 {
-        return false;
-    }
-    let cells = usize::from(width) * usize::from(height);
-    if cells > 1024 || across < 1 || down < 1 {
-        return false;
-    }
-    bits_fit(bits, cells)
+    let last = bytes
+        .get(bytes_for(cells).saturating_sub(1))
+        .copied()
+        .unwrap_or(0);
+    u16::from(last) < 1u16 << (cells.saturating_sub(1) % 8 + 1)
 }
 
 impl HallFloor {
@@ -44,15 +35,23 @@ impl HallFloor {
     ) -> Result<HallFloor, FloorFault>
         ensures { MakesHall (record { width = width; height = height; across = across; down = down; blocked = blocked.items }) result }
     {
-        if !hall_fits(width, height, across, down, blocked.as_slice()) {
-            return Err(FloorFault::Unfit);
+        let cells = usize::from(width) * usize::from(height);
+        if (1..=1024).contains(&width)
+            && (1..=1024).contains(&height)
+            && cells <= 1024
+            && 1 <= across
+            && 1 <= down
+            && blocked.len() == bytes_for(cells)
+            && spare_free(cells, blocked.as_slice())
+        {
+            return Ok(HallFloor {
+                width,
+                height,
+                across,
+                down,
+                blocked,
+            });
         }
-        Ok(HallFloor {
-            width,
-            height,
-            across,
-            down,
-            blocked,
-        })
+        Err(FloorFault::Unfit)
     }
 }

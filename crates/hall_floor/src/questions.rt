@@ -13,13 +13,11 @@ const SIDES: [Side; 4] = [Side::North, Side::West, Side::East, Side::South];
 
 impl HallFloor {
     /// Whether a place is a cell that is not blocked.
+    #[tactic(auto, unfolding(crate::specs::Halls::is_open), using(std::proofs::lemmas::List::get_or_read))]
     fn is_open(&self, place: u16) -> bool
         ensures { result ≡ is_open (hall_of self.now) place }
     {
-        if place >= self.place_count() {
-            return false;
-        }
-        (self.blocked[usize::from(place / 8)] >> (place % 8)) % 2 != 1
+        place < self.place_count() && (self.blocked[usize::from(place / 8)] >> (place % 8)) % 2 == 0
     }
 
     /// The cell beyond a side of a cell, if there is one.
@@ -28,40 +26,22 @@ impl HallFloor {
         ensures { result ≡ cell_beyond (hall_of self.now) place side }
     {
         match side {
-            Side::North => if place >= self.width {
-                Some(place - self.width)
-            } else {
-                None
-            },
-            Side::West => if place % self.width == 0 {
-                None
-            } else {
-                Some(place - 1)
-            },
-            Side::East => if place % self.width + 1 < self.width {
-                Some(place + 1)
-            } else {
-                None
-            },
-            Side::South => if place + self.width < self.place_count() {
-                Some(place + self.width)
-            } else {
-                None
-            },
+            Side::North => place.checked_sub(self.width),
+            Side::West => (place % self.width != 0).then(|| place - 1),
+            Side::East => (place % self.width + 1 < self.width).then(|| place + 1),
+            Side::South => Some(place + self.width).filter(|&cell| cell < self.place_count()),
         }
     }
 
     /// Where the leg over a side of a cell leads, if there is one.
+    #[tactic(auto, unfolding(crate::specs::Halls::over), using(crate::specs::Legs::open_inside))]
     fn over(&self, place: u16, side: Side) -> Option<u16>
         ensures { result ≡ leg_over (hall_of self.now) place side }
     {
         if !self.is_open(place) {
             return None;
         }
-        match self.beyond(place, side) {
-            Some(cell) => if self.is_open(cell) { Some(cell) } else { None },
-            None => None,
-        }
+        self.beyond(place, side).filter(|&cell| self.is_open(cell))
     }
 
     /// The pitch between a cell and the cell beyond a side of it.
@@ -69,10 +49,8 @@ impl HallFloor {
         ensures { result ≡ pitch_over (hall_of self.now) side }
     {
         match side {
-            Side::North => self.down,
-            Side::West => self.across,
-            Side::East => self.across,
-            Side::South => self.down,
+            Side::North | Side::South => self.down,
+            Side::West | Side::East => self.across,
         }
     }
 }
@@ -102,27 +80,20 @@ impl Floor for HallFloor {
         self.width * self.height
     }
 
+    #[tactic(auto, unfolding(crate::specs::Halls::hall_exits))]
     fn exit_count(&self, place: u16) -> u16 {
-        let mut count = 0;
-        for side in SIDES {
-            if self.over(place, side).is_some() {
-                count += 1;
-            }
-        }
-        count
+        SIDES
+            .iter()
+            .filter_map(|&side| self.over(place, side))
+            .count() as u16
     }
 
+    #[tactic(auto, unfolding(crate::specs::Halls::hall_exits))]
     fn exit(&self, place: u16, i: u16) -> Option<u16> {
-        let mut left = i;
-        for side in SIDES {
-            if let Some(cell) = self.over(place, side) {
-                if left == 0 {
-                    return Some(cell);
-                }
-                left -= 1;
-            }
-        }
-        None
+        SIDES
+            .iter()
+            .filter_map(|&side| self.over(place, side))
+            .nth(usize::from(i))
     }
 }
 
@@ -135,12 +106,11 @@ impl Measured for HallFloor {
 
     ghost short = { λ f. lengths_most (hall_of f) f.fit };
 
+    #[tactic(auto, unfolding(crate::specs::Halls::hall_length))]
     fn length(&self, from: u16, to: u16) -> Option<u16> {
-        for side in SIDES {
-            if self.over(from, side) == Some(to) {
-                return Some(self.pitch(side));
-            }
-        }
-        None
+        SIDES
+            .iter()
+            .find(|&&side| self.over(from, side) == Some(to))
+            .map(|&side| self.pitch(side))
     }
 }

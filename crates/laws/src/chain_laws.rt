@@ -3,22 +3,16 @@
 ghost use Rattle.laws.specs.Naming.{EachCanBeWritten, OneIsNamed, WaitsAreNamed};
 
 /// The circular wait that is named is computed; where none is computed, the paths contain none.
-pub fn waits_are_named() -> u8
+pub fn waits_are_named()
     ensures { WaitsAreNamed }
-{
-    0
-}
+{}
 
 /// No two circular waits are named.
-pub fn one_is_named() -> u8
+pub fn one_is_named()
     ensures { OneIsNamed }
-{
-    0
-}
+{}
 
 /// Each circular wait can be written from its lowest carrier on.
-pub fn each_can_be_written() -> u8
+pub fn each_can_be_written()
     ensures { EachCanBeWritten }
-{
-    0
-}
+{}

@@ -4,36 +4,26 @@ ghost use Rattle.laws.specs.Judging.{NumbersArePictures, ReachableIsComputed, Lo
 ghost use Rattle.plans.specs.Plan.{Plan};
 
 /// Numbers and pictures undo one another.
-pub fn numbers_are_pictures() -> u8
+pub fn numbers_are_pictures()
     ensures { (p : Plan) → NumbersArePictures p }
-{
-    0
-}
+{}
 
 /// The pictures that are computed to be reachable are those that moves lead to.
-pub fn reachable_is_computed() -> u8
+pub fn reachable_is_computed()
     ensures { ReachableIsComputed }
-{
-    0
-}
+{}
 
 /// The lowest-numbered standstill is found, or there is none at all.
-pub fn lowest_standstill_is_found() -> u8
+pub fn lowest_standstill_is_found()
     ensures { LowestStandstillIsFound }
-{
-    0
-}
+{}
 
 /// The way to a reachable picture leads to it.
-pub fn ways_lead() -> u8
+pub fn ways_lead()
     ensures { WaysLead }
-{
-    0
-}
+{}
 
 /// On the way back each time the lowest carrier is taken whose last move came from a reachable picture.
-pub fn lowest_goes_back() -> u8
+pub fn lowest_goes_back()
     ensures { LowestGoesBack }
-{
-    0
-}
+{}

@@ -3,36 +3,26 @@
 ghost use Rattle.laws.specs.Laws.{CheckSuffices, JudgeAgreesWithCheck, NoStandstillNoEndOfProgress, ReleasedPlansComeHome, StandstillsAreStuckStrings};
 
 /// Without foreign goals and circular waits no standstill is reachable.
-pub fn check_suffices() -> u8
+pub fn check_suffices()
     ensures { CheckSuffices }
-{
-    0
-}
+{}
 
 /// Where no standstill is reachable, every order of turns brings everybody home.
-pub fn progress_does_not_end() -> u8
+pub fn progress_does_not_end()
     ensures { NoStandstillNoEndOfProgress }
-{
-    0
-}
+{}
 
 /// A standstill is reachable exactly when some string of calls sticks, and the turns of the way to the lowest one are such a string.
-pub fn standstills_are_stuck_strings() -> u8
+pub fn standstills_are_stuck_strings()
     ensures { StandstillsAreStuckStrings }
-{
-    0
-}
+{}
 
 /// In a plan in which the check finds nothing, the judge finds no standstill.
-pub fn judge_agrees_with_check() -> u8
+pub fn judge_agrees_with_check()
     ensures { JudgeAgreesWithCheck }
-{
-    0
-}
+{}
 
 /// Every order of turns brings everybody home to its goal, where nothing breaks the rules 11 to 14 and no standstill is found.
-pub fn released_plans_come_home() -> u8
+pub fn released_plans_come_home()
     ensures { ReleasedPlansComeHome }
-{
-    0
-}
+{}

@@ -5,7 +5,7 @@ ghost use Rattle.std.specs.Prelude.{◌≡◌, length};
 ghost use Rattle.boards.specs.Holders.{Known, AtMostTwo};
 ghost use Rattle.place_board.specs.Counts.{Counted};
 
-use boards::board::{Board, CARRIERS};
+use boards::board::Board;
 use boards::faults::BoardFault;
 
 #[cfg(test)]
@@ -17,7 +17,6 @@ pub struct PlaceBoard {
     cells: [Option<u8>; 512],
     counts: [u8; 32],
     ghost long: { length cells ≡ 512 },
-    ghost wide: { length counts ≡ 32 },
     ghost known: { Known cells },
     ghost few: { AtMostTwo cells },
     ghost counted: { Counted cells counts },
@@ -26,7 +25,7 @@ pub struct PlaceBoard {
 impl Board for PlaceBoard {
     const PLACES: u16 = 512;
 
-    ghost size = { 512 };
+    ghost PLACES = { 512 };
 
     ghost holders = { λ b. b.cells };
 
@@ -36,10 +35,6 @@ impl Board for PlaceBoard {
 
     ghost few = { λ b. b.few };
 
-    fn place_count() -> u16 {
-        Self::PLACES
-    }
-
     fn new() -> Self {
         PlaceBoard {
             cells: [None; 512],
@@ -47,52 +42,44 @@ impl Board for PlaceBoard {
         }
     }
 
+    #[tactic(auto, unfolding(boards::specs::Calls::enter_answer))]
     fn enter(&mut self, carrier: u8, place: u16) -> Result<(), BoardFault> {
-        if place >= Self::PLACES {
-            return Err(BoardFault::BeyondBoard { place });
-        }
-        if carrier >= CARRIERS {
-            return Err(BoardFault::BeyondCarriers { carrier });
-        }
-        if let Some(holder) = self.cells[place as usize] {
+        let holder = self.who(place)?;
+        let count = self.count(carrier)?;
+        if let Some(holder) = holder {
             return Err(BoardFault::Held { place, holder });
         }
-        let count = self.counts[carrier as usize];
         if count >= 2 {
             return Err(BoardFault::HoldsTwo { carrier });
         }
-        self.cells[place as usize] = Some(carrier);
-        self.counts[carrier as usize] = count + 1;
+        self.cells[usize::from(place)] = Some(carrier);
+        self.counts[usize::from(carrier)] = count + 1;
         Ok(())
     }
 
+    #[tactic(auto, unfolding(boards::specs::Calls::leave_answer))]
     fn leave(&mut self, carrier: u8, place: u16) -> Result<(), BoardFault> {
-        if place >= Self::PLACES {
-            return Err(BoardFault::BeyondBoard { place });
-        }
-        if carrier >= CARRIERS {
-            return Err(BoardFault::BeyondCarriers { carrier });
-        }
-        let holder = self.cells[place as usize];
+        let holder = self.who(place)?;
+        let count = self.count(carrier)?;
         if holder != Some(carrier) {
             return Err(BoardFault::NotHolder { place, holder });
         }
-        self.cells[place as usize] = None;
-        self.counts[carrier as usize] -= 1;
+        self.cells[usize::from(place)] = None;
+        self.counts[usize::from(carrier)] = count - 1;
         Ok(())
     }
 
     fn who(&self, place: u16) -> Result<Option<u8>, BoardFault> {
-        if place >= Self::PLACES {
-            return Err(BoardFault::BeyondBoard { place });
-        }
-        Ok(self.cells[place as usize])
+        self.cells
+            .get(usize::from(place))
+            .copied()
+            .ok_or(BoardFault::BeyondBoard { place })
     }
 
     fn count(&self, carrier: u8) -> Result<u8, BoardFault> {
-        if carrier >= CARRIERS {
-            return Err(BoardFault::BeyondCarriers { carrier });
-        }
-        Ok(self.counts[carrier as usize])
+        self.counts
+            .get(usize::from(carrier))
+            .copied()
+            .ok_or(BoardFault::BeyondCarriers { carrier })
     }
 }

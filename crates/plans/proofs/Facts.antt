@@ -1,69 +1,52 @@
 -- What a read plan's invariant says.
-use Rattle.std.proofs.Common.{◌≡◌, ℕ, zero, suc, ◌+◌, ◌-◌, ◌<◌, ◌≤◌, true, List, [], ◌∷◌, length, get_or, take, replicate, Some, None, vec_items, sym, ap, ◌∙◌, arith}
-use Rattle.std.proofs.lemmas.List.{length-map, length-take-le, get_or-take, get_or_append_left, get_or-map}
-use Rattle.std.proofs.lemmas.Option.{slice_get-get_or, slice_get_past}
+use Rattle.std.proofs.Common.{◌≡◌, ℕ, ◌+◌, ◌-◌, ◌≤◌, true, List, length, get_or, take, Option, Bor, vec_items, sym, ap, ◌∙◌, arith}
+use Rattle.std.proofs.lemmas.List.{length-map, length-take-le, take_at, take-take}
+use Rattle.std.proofs.lemmas.Option.{slice_get-map, slice_get-get_or, unwrap_or-slice_get}
+use Rattle.std.specs.Option.{MatchOption, option_map, option_copied, unwrap_or}
 use Rattle.std.proofs.lemmas.Bool.{and_parts}
-use Rattle.std.specs.List.{slice_get}
+use Rattle.std.specs.List.{slice_get, All}
 use Rattle.store_floor.specs.Layout.{places, fits_layout}
 use Rattle.plans.specs.declared.plans.ReadPlan.{ReadPlan}
-use Rattle.plans.specs.Plan.{Route, nobody, entries_of, fits_carriers}
-use Rattle.plans.specs.Tables.{no_row, rows_of, row_table, route_at, routes_in}
+use Rattle.plans.specs.declared.rows.CarrierRow.{CarrierRow}
+use Rattle.plans.specs.Plan.{Route, nobody, carrier, entries_of, fits_carriers}
+use Rattle.plans.specs.Tables.{rows_of, route_at, routes_in}
 use Rattle.plans.specs.Held.{plan_of}
-use Rattle.plans.proofs.Ahead.{rows_length}
+use Rattle.plans.proofs.Routes.{rows_length}
 use Rattle.plans.proofs.Formed.{few_entries}
-use Rattle.plans.proofs.Tabled.{same_rows, row_within, last_row}
+use Rattle.plans.proofs.Tabled.{row_within, last_row}
 
 module _ (p : ReadPlan) where
-  rows_long : p.carriers ≤ length (vec_items p.tables.rows)
-  rows_long = omega (arith, p.few, p.tables.tall, p.tables.rows.ok.0)
-
   pub carriers_count : length (plan_of p).carriers ≡ p.carriers
   unfolding routes_in
-  carriers_count = length-map (take p.carriers (vec_items p.tables.rows)) (route_at (vec_items p.tables.entries)) ∙ length-take-le p.carriers (vec_items p.tables.rows) rows_long
+  carriers_count =
+      length-map (take p.carriers (vec_items p.tables.rows)) (route_at (vec_items p.tables.entries))
+      ∙ length-take-le p.carriers (vec_items p.tables.rows) (omega (arith, p.few, p.tables.tall, p.tables.rows.ok.0))
 
-  pub carriers_fit : fits_carriers (places (plan_of p).floor) (plan_of p).carriers ≡ true
+  carriers_fit : fits_carriers (places (plan_of p).floor) (plan_of p).carriers ≡ true
   carriers_fit = (and_parts (fits_layout (plan_of p).floor) _ p.fit).1
 
   pub entries_few : length (entries_of (plan_of p).carriers) ≤ 2048
   entries_few = few_entries (places (plan_of p).floor) (plan_of p).carriers carriers_fit
 
-  pub rows_are : take 32 (vec_items p.tables.rows) ≡ row_table (plan_of p).carriers
-  rows_are = same_rows (take 32 (vec_items p.tables.rows)) (row_table (plan_of p).carriers) p.rowed
-
-  -- the row of a carrier
-  row_is : (c : ℕ) → c < p.carriers → get_or (vec_items p.tables.rows) c no_row ≡ get_or (rows_of 0 (plan_of p).carriers) c no_row
-  row_is c h =
-      sym (get_or-take 32 (vec_items p.tables.rows) c no_row (omega (arith, p.few)))
-      ∙ ap (λ rows. get_or rows c no_row) rows_are
-      ∙ get_or_append_left (rows_of 0 (plan_of p).carriers) (replicate (32 - length (rows_of 0 (plan_of p).carriers)) no_row) no_row c (omega (arith, rows_length 0 (plan_of p).carriers, carriers_count))
+  -- the rows of the carriers
+  carrier_rows : take p.carriers (vec_items p.tables.rows) ≡ rows_of 0 (plan_of p).carriers
+  carrier_rows =
+      sym (take-take p.carriers 32 (vec_items p.tables.rows) p.few)
+      ∙ ap (take p.carriers) p.rowed
+      ∙ take_at (rows_of 0 (plan_of p).carriers) _ p.carriers (rows_length 0 (plan_of p).carriers ∙ carriers_count)
 
   -- the carrier that a row says
-  pub carrier_is : (c : ℕ) → c < p.carriers → get_or (plan_of p).carriers c nobody ≡ route_at (vec_items p.tables.entries) (get_or (vec_items p.tables.rows) c no_row)
+  pub carrier_is : (c : ℕ) (row : Option CarrierRow) → row ≡ slice_get (take p.carriers (vec_items p.tables.rows)) c → carrier (plan_of p) c ≡ unwrap_or (option_map (route_at (vec_items p.tables.entries)) row) nobody
   unfolding routes_in
-  carrier_is c h =
-      get_or-map (route_at (vec_items p.tables.entries)) (take p.carriers (vec_items p.tables.rows)) c no_row nobody (omega (arith, length-take-le p.carriers (vec_items p.tables.rows) rows_long))
-      ∙ ap (route_at (vec_items p.tables.entries)) (get_or-take p.carriers (vec_items p.tables.rows) c no_row h)
+  carrier_is c row e =
+      sym (unwrap_or-slice_get (plan_of p).carriers c nobody)
+      ∙ ap (λ (r : Option Route). unwrap_or r nobody) (slice_get-map (route_at (vec_items p.tables.entries)) (take p.carriers (vec_items p.tables.rows)) c ∙ ap (option_map (route_at (vec_items p.tables.entries))) (sym e))
 
-  pub carrier_nth : (c : ℕ) → c < p.carriers → slice_get (plan_of p).carriers c ≡ Some (route_at (vec_items p.tables.entries) (get_or (vec_items p.tables.rows) c no_row))
-  carrier_nth c h = slice_get-get_or (plan_of p).carriers c nobody (omega (arith, carriers_count)) ∙ ap (λ r. Some r) (carrier_is c h)
-
-  -- there is no such carrier
-  pub carrier_none : (c : ℕ) → p.carriers ≤ c → slice_get (plan_of p).carriers c ≡ None
-  carrier_none c h = slice_get_past (plan_of p).carriers c (omega (arith, carriers_count))
-
-  pub path_within : (c : ℕ) → c < p.carriers → (get_or (vec_items p.tables.rows) c no_row).before + (get_or (vec_items p.tables.rows) c no_row).count ≤ 2048
-  path_within c h =
-      let w = row_within 0 (plan_of p).carriers c (omega (arith, carriers_count)) in
-      rw (row_is c h) (omega (arith, w, entries_few))
+  pub rows_within : (rows : List CarrierRow) → rows ≡ take p.carriers (vec_items p.tables.rows) → All (λ (row : CarrierRow). row.before + row.count ≤ 2048) rows
+  rows_within rows e k d h =
+      omega (arith, row_within 0 (plan_of p).carriers k (get_or rows k d) (ap (λ rows. slice_get rows k) (sym (e ∙ carrier_rows)) ∙ slice_get-get_or rows k d h), entries_few)
 
   -- the path of the last carrier ends where all end
-  pub last_ends : (c : ℕ) → p.carriers ≡ c + 1 → (get_or (vec_items p.tables.rows) c no_row).before + (get_or (vec_items p.tables.rows) c no_row).count ≡ length (entries_of (plan_of p).carriers)
-  last_ends c h =
-      let w = last_row 0 (plan_of p).carriers c (omega (arith, carriers_count)) in
-      rw (row_is c (omega arith)) (omega (arith, w))
-
--- what stands at a place
-pub carrier_at_lem : (rs : List Route) (c : ℕ) (r : Route) → slice_get rs c ≡ Some r → get_or rs c nobody ≡ r
-carrier_at_lem [] c r e = let z : ◌≡◌ {A = ℕ} 0 1 = cc in absurd (omega arith)
-carrier_at_lem (x ∷ rs) zero r e = cc
-carrier_at_lem (x ∷ rs) (suc c) r e = carrier_at_lem rs c r e
+  pub last_ends : (last : Option (Bor CarrierRow)) (n : ℕ) → option_copied last ≡ slice_get (take p.carriers (vec_items p.tables.rows)) (length (take p.carriers (vec_items p.tables.rows)) - 1)
+      → MatchOption last (n ≡ 0) (λ row. n ≡ row.now.before + row.now.count) → n ≡ length (entries_of (plan_of p).carriers)
+  last_ends last n e m = last_row (plan_of p).carriers last n (e ∙ ap (λ rows. slice_get rows (length rows - 1)) carrier_rows) m

@@ -1,6 +1,6 @@
-pub mod Ahead
 pub mod Facts
-pub mod Fitting
 pub mod Formed
+pub mod Room
+pub mod Routes
 pub mod Tabled
 pub mod Writing

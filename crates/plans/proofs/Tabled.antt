@@ -1,10 +1,13 @@
 -- Carriers laid into tables, and read from them again.
-use Rattle.std.proofs.Common.{◌≡◌, ℕ, zero, suc, ◌+◌, ◌-◌, ◌<◌, ◌≤◌, List, [], ◌∷◌, ◌++◌, map, length, get_or, take, drop, replicate, sym, refl, ap, ◌∙◌, append_assoc, arith, length-append}
+use Rattle.std.proofs.Common.{◌≡◌, ℕ, zero, suc, ◌+◌, ◌-◌, ◌≤◌, List, [], ◌∷◌, ◌++◌, map, length, Option, Bor, Some, None, take, drop, replicate, sym, refl, ap, ◌∙◌, append_assoc, arith, length-append}
 use Rattle.std.proofs.lemmas.List.{take_at, drop_at, length-replicate}
+use Rattle.std.proofs.lemmas.Option.{slice_get-get_or}
+use Rattle.std.specs.Option.{MatchOption, option_copied}
+use Rattle.std.specs.List.{slice_get}
 use Rattle.plans.specs.declared.rows.CarrierRow.{CarrierRow}
 use Rattle.plans.specs.Plan.{Route, entries_of}
-use Rattle.plans.specs.Tables.{rows_of, no_row, filled, entry_table, row_table, numbers_in, route_at, routes_in}
-use Rattle.plans.proofs.Ahead.{rows_length}
+use Rattle.plans.specs.Tables.{rows_of, no_row, filled, entry_table, row_table, route_at, routes_in}
+use Rattle.plans.proofs.Routes.{rows_length}
 
 pub filled_length : {X : Type 0} (n : ℕ) (x : X) (xs : List X) → length xs ≤ n → length (filled n x xs) ≡ n
 filled_length n x xs h = length-append xs (replicate (n - length xs) x) ∙ ap (λ k. length xs + k) (length-replicate (n - length xs) x) ∙ omega arith
@@ -36,36 +39,33 @@ routes_back rs entries rows =
     let t : take (length rs) (row_table rs ++ rows) ≡ rows_of 0 rs = ap (take (length rs)) r ∙ take_at (rows_of 0 rs) _ (length rs) (rows_length 0 rs) in
     (λ i. map (route_at (e i)) (t i)) ∙ routes_behind [] rs _
 
-same_row : (x y : CarrierRow) → x.start ≡ y.start → x.goal ≡ y.goal → x.before ≡ y.before → x.count ≡ y.count → x ≡ y
-same_row x y s g b n = λ i. record { start = s i; goal = g i; before = b i; count = n i }
-
--- rows are equal if they are so number by number
-pub same_rows : (xs ys : List CarrierRow) → numbers_in xs ≡ numbers_in ys → xs ≡ ys
-unfolding numbers_in
-same_rows [] [] e = refl
-same_rows [] (y ∷ ys) e = let z : ◌≡◌ {A = ℕ} 0 1 = cc in absurd (omega arith)
-same_rows (x ∷ xs) [] e = let z : ◌≡◌ {A = ℕ} 0 1 = cc in absurd (omega arith)
-same_rows (x ∷ xs) (y ∷ ys) e =
-    let s : x.start ≡ y.start = cc in
-    let g : x.goal ≡ y.goal = cc in
-    let b : x.before ≡ y.before = cc in
-    let n : x.count ≡ y.count = cc in
-    let m : numbers_in xs ≡ numbers_in ys = cc in
-    λ i. same_row x y s g b n i ∷ same_rows xs ys m i
-
 -- where a path ends
-pub row_within : (before : ℕ) (rs : List Route) (c : ℕ) → c < length rs → (get_or (rows_of before rs) c no_row).before + (get_or (rows_of before rs) c no_row).count ≤ before + length (entries_of rs)
+pub row_within : (before : ℕ) (rs : List Route) (c : ℕ) (row : CarrierRow) → slice_get (rows_of before rs) c ≡ Some row → row.before + row.count ≤ before + length (entries_of rs)
 unfolding rows_of entries_of
-row_within before [] c h = absurd (omega arith)
-row_within before (r ∷ more) zero h = omega (arith, length-append r.path (entries_of more))
-row_within before (r ∷ more) (suc c) h = omega (arith, length-append r.path (entries_of more), row_within (before + length r.path) more c (omega arith))
+row_within before [] c row e = let z : ◌≡◌ {A = ℕ} 0 1 = cc in absurd (omega arith)
+row_within before (r ∷ more) zero row e =
+    let b : row.before ≡ before = cc in
+    let n : row.count ≡ length r.path = cc in
+    omega (arith, length-append r.path (entries_of more))
+row_within before (r ∷ more) (suc c) row e = omega (arith, length-append r.path (entries_of more), row_within (before + length r.path) more c row e)
 
 -- the last path ends where all end
-pub last_row : (before : ℕ) (rs : List Route) (c : ℕ) → length rs ≡ suc c → (get_or (rows_of before rs) c no_row).before + (get_or (rows_of before rs) c no_row).count ≡ before + length (entries_of rs)
+last_behind : (before : ℕ) (r : Route) (rs : List Route) (row : CarrierRow) → slice_get (rows_of before (r ∷ rs)) (length rs) ≡ Some row → row.before + row.count ≡ before + length (entries_of (r ∷ rs))
 unfolding rows_of entries_of
-last_row before [] c h = absurd (omega arith)
-last_row before (r ∷ []) zero h = omega (arith, length-append r.path [])
-last_row before (r ∷ []) (suc c) h = absurd (omega arith)
-last_row before (r ∷ s ∷ more) zero h = absurd (omega arith)
-last_row before (r ∷ s ∷ more) (suc c) h =
-    omega (arith, length-append r.path (entries_of (s ∷ more)), last_row (before + length r.path) (s ∷ more) c (omega arith))
+last_behind before r [] row e =
+    let b : row.before ≡ before = cc in
+    let n : row.count ≡ length r.path = cc in
+    omega (arith, length-append r.path [])
+last_behind before r (s ∷ rs) row e = omega (arith, length-append r.path (entries_of (s ∷ rs)), last_behind (before + length r.path) s rs row e)
+
+pub last_row : (rs : List Route) (last : Option (Bor CarrierRow)) (n : ℕ) → option_copied last ≡ slice_get (rows_of 0 rs) (length (rows_of 0 rs) - 1) → MatchOption last (n ≡ 0) (λ row. n ≡ row.now.before + row.now.count) → n ≡ length (entries_of rs)
+unfolding rows_of entries_of
+last_row [] None n e m = m
+last_row [] (Some row) n e m = let z : ◌≡◌ {A = ℕ} 0 1 = cc in absurd (omega arith)
+last_row (r ∷ rs) None n e m =
+    let some = slice_get-get_or (rows_of 0 (r ∷ rs)) (length (rows_of 0 (r ∷ rs)) - 1) no_row (omega arith) in
+    let z : ◌≡◌ {A = ℕ} 0 1 = cc in
+    absurd (omega arith)
+last_row (r ∷ rs) (Some row) n e m =
+    let last : length (rows_of 0 (r ∷ rs)) - 1 ≡ length rs = omega (arith, rows_length (0 + length r.path) rs) in
+    omega (arith, m, last_behind 0 r rs row.now (sym (e ∙ ap (slice_get (rows_of 0 (r ∷ rs))) last)))

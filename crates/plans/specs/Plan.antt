@@ -1,5 +1,6 @@
 -- A plan: a floor, and carriers, numbered from 0, each with start, goal and path.
-use Rattle.std.specs.Prelude.{ℕ, Bool, true, ◌&&◌, List, [], ◌∷◌, ◌++◌, length, nat_le, nat_lt, slice_index_or}
+use Rattle.std.specs.Prelude.{ℕ, Bool, ◌&&◌, List, [], length, nat_le, nat_lt, slice_index_or}
+use Rattle.std.specs.List.{list_all, flat_map}
 use Rattle.store_floor.specs.Layout.{Layout, places, fits_layout}
 
 -- a carrier; its path is a list of places, empty if it has none
@@ -14,21 +15,18 @@ pub record Plan : Type 0 where
 
 -- the paths of carriers, one behind another
 unfoldable pub entries_of : List Route → List ℕ
-entries_of [] = []
-entries_of (r ∷ more) = r.path ++ entries_of more
+entries_of rs = flat_map (λ r. r.path) rs
 
 -- whether each entry is a place of a floor of so many places
 unfoldable pub within : ℕ → List ℕ → Bool
-within n [] = true
-within n (entry ∷ more) = nat_lt entry n && within n more
+within n path = list_all (λ entry. nat_lt entry n) path
 
 -- whether start, goal and each entry of a carrier is a place of the floor
 abbrev pub on_floor : ℕ → Route → Bool
 on_floor n r = nat_lt r.start n && (nat_lt r.goal n && within n r.path)
 
 unfoldable pub all_on_floor : ℕ → List Route → Bool
-all_on_floor n [] = true
-all_on_floor n (r ∷ more) = on_floor n r && all_on_floor n more
+all_on_floor n rs = list_all (on_floor n) rs
 
 -- at most 32 carriers, at most 2,048 entries in all, and each start, goal and entry a place of the floor
 abbrev pub fits_carriers : ℕ → List Route → Bool

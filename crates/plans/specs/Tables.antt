@@ -24,11 +24,6 @@ entry_table rs = filled 2048 0 (entries_of rs)
 abbrev pub row_table : List Route → List CarrierRow
 row_table rs = filled 32 no_row (rows_of 0 rs)
 
--- rows, number by number
-unfoldable pub numbers_in : List CarrierRow → List ℕ
-numbers_in [] = []
-numbers_in (row ∷ more) = row.start ∷ row.goal ∷ row.before ∷ row.count ∷ numbers_in more
-
 -- the carrier that a row of the tables says
 abbrev pub route_at : List ℕ → CarrierRow → Route
 route_at entries row = record { start = row.start; goal = row.goal; path = take row.count (drop row.before entries) }

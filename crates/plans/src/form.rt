@@ -6,8 +6,7 @@ ghost use Rattle.plans.specs.Held.{routes_of, plan_of};
 ghost use Rattle.plans.specs.Forms.{Forms};
 
 use crate::carriers::Carrier;
-use crate::fit::carriers_fit;
-use crate::layout::lay;
+use crate::layout::Fitting;
 use crate::plans::{Misfit, ReadPlan};
 use crate::tables::Tables;
 use floors::floor::Floor;
@@ -15,16 +14,21 @@ use store_floor::store::StoreFloor;
 
 impl ReadPlan {
     /// The plan of a floor and carriers, in these tables; or both handed back, where the carriers do not fit the floor.
-    pub fn new(floor: StoreFloor, carriers: &[Carrier], tables: Tables) -> Result<ReadPlan, Misfit>
+    pub fn new(
+        floor: StoreFloor,
+        carriers: &[Carrier],
+        mut tables: Tables,
+    ) -> Result<ReadPlan, Misfit>
         ensures { Forms floor (routes_of carriers.now) tables result }
     {
-        if !carriers_fit(floor.place_count(), carriers) {
+        let Some(fitting) = Fitting::new(floor.place_count(), carriers) else {
             return Err(Misfit { floor, tables });
-        }
+        };
+        tables.lay(&fitting);
         Ok(ReadPlan {
             floor,
-            tables: lay(tables, carriers),
-            carriers: carriers.len() as u8,
+            tables,
+            carriers: fitting.count(),
         })
     }
 
@@ -35,11 +39,6 @@ impl ReadPlan {
         ensures entries { take 2048 result.1.entries.items ≡ entry_table (plan_of self).carriers }
         ensures rows { take 32 result.1.rows.items ≡ row_table (plan_of self).carriers }
     {
-        let ReadPlan {
-            floor,
-            tables,
-            carriers: _,
-        } = self;
-        (floor, tables)
+        (self.floor, self.tables)
     }
 }

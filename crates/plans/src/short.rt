@@ -13,36 +13,31 @@ impl Tables {
     pub fn new(entries: Vec<u16>, rows: Vec<CarrierRow>) -> Result<Tables, TablesRefused>
         ensures { Takes entries rows result }
     {
-        if entries.len() < 2048 {
-            let short = ShortTable::Entries;
-            return Err(TablesRefused {
-                entries,
-                rows,
-                short,
-            });
-        }
-        if rows.len() < 32 {
-            let short = ShortTable::Rows;
-            return Err(TablesRefused {
-                entries,
-                rows,
-                short,
-            });
-        }
-        Ok(Tables { entries, rows })
+        let short = if entries.len() < Tables::ENTRIES {
+            ShortTable::Entries
+        } else if rows.len() < Tables::ROWS {
+            ShortTable::Rows
+        } else {
+            return Ok(Tables { entries, rows });
+        };
+        Err(TablesRefused {
+            entries,
+            rows,
+            short,
+        })
     }
 
     /// Both tables, the entries first.
     pub fn into_parts(self) -> (Vec<u16>, Vec<CarrierRow>)
         ensures { (result.0 ≡ self.entries) × (result.1 ≡ self.rows) }
     {
-        let Tables { entries, rows } = self;
-        (entries, rows)
+        (self.entries, self.rows)
     }
 }
 
 impl ShortTable {
     /// The number of the refusal.
+    // Kept: by a rule of the project a refusal has a number, which is printed and stands for it on screens.
     pub fn number(&self) -> u8
         ensures { result ≡ (short_refusal self.now).number }
     {
@@ -55,10 +50,12 @@ impl fmt::Display for ShortTable {
 
     fn fmt<W: fmt::Write>(&self, f: &mut fmt::Formatter<W>) -> fmt::Result {
         let number = self.number();
-        let (table, due) = match *self {
-            ShortTable::Entries => (1u8, 2048u16),
-            ShortTable::Rows => (2, 32),
+        let (table, due) = match self {
+            ShortTable::Entries => (1u8, Tables::ENTRIES),
+            ShortTable::Rows => (2, Tables::ROWS),
         };
         write!(f, "{number} {table} {due}")
     }
 }
+
+impl std::error::Error for ShortTable {}

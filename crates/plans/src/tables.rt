@@ -11,6 +11,14 @@ pub struct Tables {
     ghost tall: { 32 ≤ vec_len rows },
 }
 
+impl Tables {
+    /// How many entries the entry table has at least.
+    pub const ENTRIES: usize = 2048;
+
+    /// How many rows the carrier table has at least.
+    pub const ROWS: usize = 32;
+}
+
 /// The table that is too short.
 #[derive(Clone, Copy, PartialEq, Eq, Debug)]
 pub enum ShortTable {

@@ -1,14 +1,14 @@
 -- Chains that lead back: what a search for a circular wait goes through.
-use Rattle.std.specs.Prelude.{◌≡◌, ℕ, ◌+◌, ◌<◌, ◌≤◌, List, [], ◌∷◌, length, slice_index, slice_set}
+use Rattle.std.specs.Prelude.{◌≡◌, ℕ, ◌+◌, ◌<◌, ◌≤◌, List, [], ◌∷◌, length, slice_index, slice_index_or, slice_set, None, Option}
 use Rattle.plans.specs.Plan.{Plan}
 use Rattle.laws.specs.declared.pairs.Pair.{Pair}
 use Rattle.laws.specs.Paths.{Carrier, HasLeg, entry}
 use Rattle.laws.specs.Chains.{end}
 use Rattle.pruning.specs.declared.dropped.Dropped.{Dropped}
 
--- what is said of leg t of carrier c: 0 keeps it
-abbrev pub height : Dropped → ℕ → ℕ → ℕ
-height d c t = slice_index d.heights (slice_index d.offsets c + t)
+-- the height that drops leg t of carrier c; none keeps it
+abbrev pub height : Dropped → ℕ → ℕ → Option ℕ
+height d c t = slice_index_or d.heights (slice_index d.offsets c + t) None
 
 -- which legs may follow the first of a circular wait: those of carriers above its carrier, `low`, that are not dropped
 pub record Scope : Type 0 where
@@ -25,7 +25,7 @@ pub record Open (p : Plan) (marks : List ℕ) (s : Scope) (u c t : ℕ) : Type 0
   pub free : slice_index marks c ≡ 0
   pub inside : HasLeg p c t
   pub begins : entry p c t ≡ u
-  pub live : height s.dropped c t ≡ 0
+  pub live : height s.dropped c t ≡ None
 
 -- legs that lead from the place u back to the place home: a chain of unmarked carriers, each leg in the scope
 unfoldable pub LeadsBack : Plan → List ℕ → Scope → ℕ → ℕ → List Pair → Type 0

@@ -1,5 +1,6 @@
 -- What is checked of tables that were computed without a promise: each is a certificate for a fact about chains.
-use Rattle.std.specs.Prelude.{◌≡◌, ℕ, suc, ◌+◌, ◌-◌, ◌<◌, ◌≤◌, cond, ◌⊎◌, List, ◌∷◌, count_by, ◌==◌, ◌≢◌, nat_eq, slice_index}
+use Rattle.std.specs.Prelude.{◌≡◌, ℕ, suc, ◌+◌, ◌<◌, ◌≤◌, cond, ◌⊎◌, List, ◌∷◌, count_by, ◌==◌, ◌≢◌, nat_eq, slice_index, slice_index_or, None, Option, IfSome}
+use Rattle.std.specs.Option.{unwrap_or}
 use Rattle.plans.specs.Plan.{Plan}
 use Rattle.laws.specs.declared.pairs.Pair.{Pair}
 use Rattle.laws.specs.Paths.{Carrier, HasLeg, entry, last}
@@ -9,25 +10,38 @@ use Rattle.pruning.specs.Back.{height, Scope, Open}
 
 -- No dropped leg is on a circular wait.
 abbrev pub Live : Plan → Dropped → Type 0
-Live p d = (x : Pair) (xs : List Pair) → CircularWait p (x ∷ xs) → height d x.carrier x.leg ≡ 0
+Live p d = (x : Pair) (xs : List Pair) → CircularWait p (x ∷ xs) → height d x.carrier x.leg ≡ None
 
--- Of the legs at each place: `low` is their least height, `who` a carrier that has it, `next` the least of the other carriers.
--- A leg of carrier c at the place u, of height h, has been counted.
-pub record Counts (low who next : List ℕ) (u c h : ℕ) : Type 0 where
-  pub least : slice_index low u ≤ h
-  pub others : (slice_index who u ≢ c) → slice_index next u ≤ h
+-- of the legs at a place: their least height, a carrier that has it, and the least height of the other carriers
+pub record Lowest : Type 0 where
+  pub low : ℕ
+  pub who : ℕ
+  pub next : ℕ
 
--- the least height of the legs at u of other carriers than c
-abbrev pub least_other : List ℕ → List ℕ → List ℕ → ℕ → ℕ → ℕ
-least_other low who next u c = cond (slice_index who u == c) (slice_index next u) (slice_index low u)
+-- what a table says of the legs at the place u
+abbrev pub lowest_at : List Lowest → ℕ → Lowest
+lowest_at table u = slice_index_or table u (record { low = 0; who = 0; next = 0 })
 
--- What is checked of leg t of c: it is counted where it begins and where it ends, and if it is dropped, then all legs of others that
--- begin at its end are higher, or all that end at its beginning.
-pub record Sunk (p : Plan) (d : Dropped) (low_out who_out next_out low_in who_in next_in : List ℕ) (c t : ℕ) : Type 0 where
-  pub leaves : Counts low_out who_out next_out (entry p c t) c (height d c t)
-  pub comes : Counts low_in who_in next_in (entry p c (suc t)) c (height d c t)
-  pub small : height d c t < 65536
-  pub alone : (height d c t ≡ 0) ⊎ ((height d c t < least_other low_out who_out next_out (entry p c (suc t)) c) ⊎ (height d c t < least_other low_in who_in next_in (entry p c t) c))
+-- a leg of carrier c at a place, of height h, has been counted
+pub record Counts (at : Lowest) (c h : ℕ) : Type 0 where
+  pub least : at.low ≤ h
+  pub others : (at.who ≢ c) → at.next ≤ h
+
+-- the least height of the legs at a place of other carriers than c
+abbrev pub least_other : Lowest → ℕ → ℕ
+least_other at c = cond (at.who == c) at.next at.low
+
+-- the height that leg t of carrier c counts with: 0 if it is kept
+abbrev pub counted : Dropped → ℕ → ℕ → ℕ
+counted d c t = unwrap_or (height d c t) 0
+
+-- What is checked of leg t of c: it is counted where it begins, in `out`, and where it ends, in `into`; and if it is dropped, then all
+-- legs of others that begin at its end are higher, or all that end at its beginning.
+pub record Sunk (p : Plan) (d : Dropped) (out into : List Lowest) (c t : ℕ) : Type 0 where
+  pub leaves : Counts (lowest_at out (entry p c t)) c (counted d c t)
+  pub comes : Counts (lowest_at into (entry p c (suc t))) c (counted d c t)
+  pub small : counted d c t < 65536
+  pub alone : (height d c t ≡ None) ⊎ ((counted d c t < least_other (lowest_at out (entry p c (suc t))) c) ⊎ (counted d c t < least_other (lowest_at into (entry p c t)) c))
 
 -- how many numbers are 0
 unfoldable pub zeros : List ℕ → ℕ
@@ -50,16 +64,16 @@ pub record Ahead (p : Plan) (marks : List ℕ) (s : Scope) (from : ℕ) (ahead :
 
 -- leg t of k and leg t of c are both dropped, or both kept and between the same places
 pub record AlikeLeg (p : Plan) (d : Dropped) (k c t : ℕ) : Type 0 where
-  pub there : height d k t ≡ 0 → height d c t ≡ 0
-  pub back : height d c t ≡ 0 → height d k t ≡ 0
-  pub begins : height d k t ≡ 0 → entry p k t ≡ entry p c t
-  pub ends : height d k t ≡ 0 → entry p k (suc t) ≡ entry p c (suc t)
+  pub there : height d k t ≡ None → height d c t ≡ None
+  pub back : height d c t ≡ None → height d k t ≡ None
+  pub begins : height d k t ≡ None → entry p k t ≡ entry p c t
+  pub ends : height d k t ≡ None → entry p k (suc t) ≡ entry p c (suc t)
 
 -- carriers k and c are interchangeable
 pub record Alike (p : Plan) (d : Dropped) (k c : ℕ) : Type 0 where
   pub legs : last p k ≡ last p c
   pub leg : (t : ℕ) → HasLeg p k t → AlikeLeg p d k c t
 
--- What is checked of `like`: for each carrier it is 0, or one more than the number of a lower one that is interchangeable with it.
-abbrev pub Likes : Plan → Dropped → List ℕ → Type 0
-Likes p d like = (c : ℕ) → Carrier p c → 0 < slice_index like c → (slice_index like c ≤ c) × Alike p d (slice_index like c - 1) c
+-- What is checked of `like`: what it says for a carrier, if anything, is a lower one that is interchangeable with it.
+abbrev pub Likes : Plan → Dropped → List (Option ℕ) → Type 0
+Likes p d like = (c : ℕ) → Carrier p c → IfSome (slice_index_or like c None) (λ k. (k < c) × Alike p d k c)

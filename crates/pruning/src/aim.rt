@@ -12,8 +12,8 @@ pub struct Aim<'p, 'd> {
     pub plan: &'p ReadPlan,
     /// Which of them are left out.
     pub dropped: &'d Dropped,
-    /// For each carrier, one more than a lower one that is interchangeable with it, or 0.
-    pub like: &'d [u8],
+    /// For each carrier, a lower one that is interchangeable with it, if one was found.
+    pub like: &'d [Option<u8>],
     /// The place to come back to.
     pub home: u16,
     /// The carrier of the first leg.

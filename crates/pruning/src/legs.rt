@@ -4,14 +4,13 @@ ghost use Rattle.std.specs.Prelude.{◌≡◌};
 ghost use Rattle.plans.specs.Held.{plan_of};
 ghost use Rattle.laws.specs.Chains.{end};
 
-use crate::dropped::Dropped;
 use laws::pairs::Pair;
 use plans::plans::ReadPlan;
-use rules::paths::entry;
+use rules::paths::Route;
 
 /// Where a leg ends.
 pub fn end_of(plan: &ReadPlan, leg: Pair) -> u16
     ensures { result ≡ end (plan_of plan.now) leg }
 {
-    entry(plan, leg.carrier, leg.leg.saturating_add(1))
+    Route::of(plan, leg.carrier).end(leg.leg)
 }

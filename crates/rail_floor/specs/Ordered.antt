@@ -1,8 +1,9 @@
 -- Legs in order: where they lead, and how long they are.
-use Rattle.std.specs.Prelude.{◌≡◌, ℕ, zero, suc, ◌<◌, ◌≤◌, true, false, cond, ◌&&◌, ◌⊎◌, List, [], ◌∷◌, length, is_some, Some, None, Option, ◌≢◌, ◌==◌, nat_eq, slice_index, refl}
+use Rattle.std.specs.Prelude.{◌≡◌, ℕ, zero, suc, ◌<◌, ◌≤◌, true, false, cond, ◌⊎◌, List, [], ◌∷◌, length, is_some, Some, None, Option, ◌≢◌, ◌==◌, nat_eq, slice_index, refl}
 use Rattle.std.proofs.Common.{ap, inl, inr, arith}
 use Rattle.std.proofs.lemmas.Bool.Decides.{nat_tests}
-use Rattle.std.proofs.lemmas.Bool.{and_parts, cases_eq, eq-eqb, ne_eqb}
+use Rattle.std.proofs.lemmas.Option.{none-some}
+use Rattle.std.proofs.lemmas.Bool.{false≢true, and_parts, cases_eq, eq-eqb, ne_eqb}
 use Rattle.std.specs.List.{slice_get}
 use Rattle.floors.specs.Exits.{has, Rises}
 use Rattle.rail_floor.specs.declared.legs.Leg.{Leg}
@@ -17,15 +18,6 @@ head_fits n b l ls h = (and_parts (fits_leg n b l) (fits_legs n (Some l) ls) h).
 pub tail_fits : (n : ℕ) (b : Option Leg) (l : Leg) (ls : List Leg) → fits_legs n b (l ∷ ls) ≡ true → fits_legs n (Some l) ls ≡ true
 unfolding fits_legs
 tail_fits n b l ls h = (and_parts (fits_leg n b l) (fits_legs n (Some l) ls) h).1
-
--- where the first fits, it is for those behind it to say; else they do not fit
-pub fits_more : (n : ℕ) (b : Option Leg) (l : Leg) (ls : List Leg) → fits_leg n b l ≡ true → fits_legs n b (l ∷ ls) ≡ fits_legs n (Some l) ls
-unfolding fits_legs
-fits_more n b l ls h = ap (λ t. t && fits_legs n (Some l) ls) h
-
-pub fits_stop : (n : ℕ) (b : Option Leg) (l : Leg) (ls : List Leg) → fits_leg n b l ≡ false → fits_legs n b (l ∷ ls) ≡ false
-unfolding fits_legs
-fits_stop n b l ls h = ap (λ t. t && fits_legs n (Some l) ls) h
 
 -- what places and legs are that fit
 pub record RailFit (n : ℕ) (ls : List Leg) : Type 0 where
@@ -58,7 +50,7 @@ pub next_before : (n : ℕ) (b l : Leg) → fits_leg n (Some b) l ≡ true → B
 next_before n b l h = record { from = grind (arith, nat_tests); to = grind (arith, nat_tests) }
 
 pub all_before : (n : ℕ) (b : Leg) (ls : List Leg) (k : ℕ) (x : Leg) → fits_legs n (Some b) ls ≡ true → slice_get ls k ≡ Some x → Before b x
-all_before n b [] k x h e = let z : ◌≡◌ {A = ℕ} 0 1 = cc in absurd (omega arith)
+all_before n b [] k x h e = absurd (none-some x e)
 all_before n b (l ∷ ls) zero x h e = let q : l ≡ x = cc in rw (← q) (next_before n b l (head_fits n (Some b) l ls h))
 all_before n b (l ∷ ls) (suc k) x h e =
     let o = next_before n b l (head_fits n (Some b) l ls h) in
@@ -68,7 +60,7 @@ all_before n b (l ∷ ls) (suc k) x h e =
 -- the exits of a place lead elsewhere on the floor
 pub exits_inside : (n : ℕ) (b : Option Leg) (ls : List Leg) (p q : ℕ) → fits_legs n b ls ≡ true → has q (exits_of ls p) ≡ true → q < n
 unfolding exits_of has
-exits_inside n b [] p q h k = let z : ◌≡◌ {A = ℕ} 0 1 = cc in absurd (omega arith)
+exits_inside n b [] p q h k = absurd (false≢true k)
 exits_inside n b (l ∷ ls) p q h k =
     let f = leg_fit n b l (head_fits n b l ls h) in
     let r : has q (exits_of ls p) ≡ true → q < n = exits_inside n (Some l) ls p q (tail_fits n b l ls h) in
@@ -137,7 +129,7 @@ length-led (l ∷ ls) p q = let r = length-led ls p q in grind (arith, nat_tests
 
 pub length_long : (n : ℕ) (b : Option Leg) (ls : List Leg) (p q d : ℕ) → fits_legs n b ls ≡ true → length_of ls p q ≡ Some d → 1 ≤ d
 unfolding length_of
-length_long n b [] p q d h e = let z : ◌≡◌ {A = ℕ} 0 1 = cc in absurd (omega arith)
+length_long n b [] p q d h e = absurd (none-some d e)
 length_long n b (l ∷ ls) p q d h e =
     let f = leg_fit n b l (head_fits n b l ls h) in
     let r : length_of ls p q ≡ Some d → 1 ≤ d = length_long n (Some l) ls p q d (tail_fits n b l ls h) in
@@ -145,7 +137,7 @@ length_long n b (l ∷ ls) p q d h e =
 
 pub length_short : (n : ℕ) (b : Option Leg) (ls : List Leg) (p q d : ℕ) → fits_legs n b ls ≡ true → length_of ls p q ≡ Some d → d ≤ 65535
 unfolding length_of
-length_short n b [] p q d h e = let z : ◌≡◌ {A = ℕ} 0 1 = cc in absurd (omega arith)
+length_short n b [] p q d h e = absurd (none-some d e)
 length_short n b (l ∷ ls) p q d h e =
     let f = leg_fit n b l (head_fits n b l ls h) in
     let r : length_of ls p q ≡ Some d → d ≤ 65535 = length_short n (Some l) ls p q d (tail_fits n b l ls h) in
@@ -154,7 +146,7 @@ length_short n b (l ∷ ls) p q d h e =
 -- a listed leg is as long as it says
 pub length-listed : (n : ℕ) (b : Option Leg) (ls : List Leg) (k : ℕ) (x : Leg) → fits_legs n b ls ≡ true → slice_get ls k ≡ Some x → length_of ls x.from x.to ≡ Some x.length
 unfolding length_of
-length-listed n b [] k x h e = let z : ◌≡◌ {A = ℕ} 0 1 = cc in absurd (omega arith)
+length-listed n b [] k x h e = absurd (none-some x e)
 length-listed n b (l ∷ ls) zero x h e = let q : l ≡ x = cc in rw q (grind (arith, nat_tests))
 length-listed n b (l ∷ ls) (suc k) x h e =
     let t = tail_fits n b l ls h in
@@ -165,7 +157,7 @@ length-listed n b (l ∷ ls) (suc k) x h e =
 -- and a length is that of a listed leg
 pub listed-length : (ls : List Leg) (p q d : ℕ) → length_of ls p q ≡ Some d → Listed ls p q d
 unfolding length_of
-listed-length [] p q d e = let z : ◌≡◌ {A = ℕ} 0 1 = cc in absurd (omega arith)
+listed-length [] p q d e = absurd (none-some d e)
 listed-length (l ∷ ls) p q d e = go (cases_eq l.from p) (cases_eq l.to q) (listed-length ls p q d)
   where
     more : (length_of ls p q ≡ Some d → Listed ls p q d) → length_of ls p q ≡ Some d → Listed (l ∷ ls) p q d

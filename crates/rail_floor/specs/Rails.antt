@@ -1,5 +1,6 @@
 -- A rail floor: so many places, and a list of legs.
 use Rattle.std.specs.Prelude.{ℕ, ◌+◌, Bool, true, cond, not, ◌&&◌, ◌||◌, List, [], ◌∷◌, length, Some, None, Option, ◌==◌, nat_le, nat_lt}
+use Rattle.std.specs.List.{filter}
 use Rattle.rail_floor.specs.declared.legs.Leg.{Leg}
 
 -- whether a leg stands above the one before it, by from, then to
@@ -24,6 +25,10 @@ fits_legs places before (leg ∷ legs) = fits_leg places before leg && fits_legs
 -- 1 to 1,024 places, and at most 4,096 legs
 abbrev pub fits_rail : ℕ → List Leg → Bool
 fits_rail places legs = nat_le 1 places && (nat_le places 1024 && (nat_le (length legs) 4096 && fits_legs places None legs))
+
+-- the legs from a place
+abbrev pub legs_at : List Leg → ℕ → List Leg
+legs_at legs place = filter (λ leg. leg.from == place) legs
 
 -- where the legs from a place lead
 unfoldable pub exits_of : List Leg → ℕ → List ℕ

@@ -1,6 +1,6 @@
 //! How a rail floor is made.
 
-ghost use Rattle.std.specs.Prelude.{◌≡◌, ℕ, ◌+◌, ◌≤◌, true, IfOk, None, vec_len, slice_index};
+ghost use Rattle.std.specs.Prelude.{◌≡◌, ℕ, ◌+◌, ◌≤◌, true, IfOk, None, length, vec_len, slice_index};
 ghost use Rattle.floors.specs.Made.{Makes};
 ghost use Rattle.rail_floor.specs.Rails.{above, in_order, fits_leg, fits_legs, fits_rail, below};
 ghost use Rattle.rail_floor.specs.Held.{legs_of, IsRail};
@@ -10,21 +10,11 @@ use crate::rail::RailFloor;
 use floors::faults::FloorFault;
 use std::alloc::{AllocError, Global};
 
-/// Whether a leg stands above the one before it: by from, then by to.
-fn is_above(before: Option<Leg>, from: u16, to: u16) -> bool
-    ensures { result ≡ above before from to }
-{
-    match before {
-        Some(leg) => leg.from < from || (leg.from == from && leg.to < to),
-        None => true,
-    }
-}
-
-/// Whether a leg leads to another place, and stands above the one before it.
+/// Whether a leg leads to another place, and stands above the one before it: by from, then by to.
 pub fn in_order(before: Option<Leg>, from: u16, to: u16) -> bool
     ensures { result ≡ in_order before from to }
 {
-    from != to && is_above(before, from, to)
+    from != to && before.is_none_or(|leg| (leg.from, leg.to) < (from, to))
 }
 
 /// Whether a leg may stand behind another on a floor of so many places.
@@ -35,37 +25,36 @@ fn leg_fits(places: u16, before: Option<Leg>, leg: Leg) -> bool
 }
 
 /// Whether each leg fits behind the one before it.
+#[tactic(auto, unfolding(crate::specs::Rails::fits_legs))]
 fn legs_fit(places: u16, legs: &[Leg]) -> bool
     ensures { result ≡ fits_legs places None legs.now }
 {
+    // Kept: each leg is tested against the one before it; a fold that carries that one is longer.
     let mut before = None;
-    for leg in legs {
-        if !leg_fits(places, before, *leg) {
+    for &leg in legs {
+        if !leg_fits(places, before, leg) {
             return false;
         }
-        before = Some(*leg);
+        before = Some(leg);
     }
     true
 }
 
 /// Whether these places and legs make a rail floor.
+// Kept: a struct of places and legs is no plainer, since `RailFloor` is that struct and holds only what fits.
 fn rail_fits(places: u16, legs: &[Leg]) -> bool
     ensures { result ≡ fits_rail places legs.now }
 {
-    1 <= places && places <= 1024 && legs.len() <= 4096 && legs_fit(places, legs)
+    (1..=1024).contains(&places) && legs.len() <= 4096 && legs_fit(places, legs)
 }
 
-/// How many legs begin below a place, where at least `start` are known to.
-fn legs_below(legs: &[Leg], start: usize, place: u16) -> usize
-    requires order { (places : ℕ) × (fits_legs places None legs.now ≡ true) }
-    requires start { start ≤ below legs.now place }
-    ensures { result ≡ below legs.now place }
+/// How many legs begin below a place.
+fn legs_below(legs: &[Leg], place: u16) -> usize
+    requires { (places : ℕ) × (fits_legs places None legs.now ≡ true) }
+    ensures count { result ≡ below legs.now place }
+    ensures inside { result ≤ length legs.now }
 {
-    let mut next = start;
-    while next < legs.len() && legs[next].from < place {
-        next += 1;
-    }
-    next
+    legs.partition_point(|leg| leg.from < place)
 }
 
 /// Where the legs from each place begin, and, one entry more, where the last end.
@@ -73,13 +62,9 @@ fn index(heap: Global, places: u16, legs: &[Leg]) -> Result<Vec<u16>, AllocError
     requires { fits_rail places legs.now ≡ true }
     ensures { IfOk result (λ first. (vec_len first ≡ places + 1) × ((p : ℕ) → p ≤ places → slice_index first.items p ≡ below legs.now p)) }
 {
-    let mut first = Vec::new(heap);
-    let mut next = 0;
-    for place in 0..places + 1 {
-        next = legs_below(legs, next, place);
-        first.push(next as u16)?;
-    }
-    Ok(first)
+    (0..=places)
+        .map(|place| legs_below(legs, place) as u16)
+        .collect(heap)
 }
 
 impl RailFloor {

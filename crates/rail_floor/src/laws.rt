@@ -1,8 +1,6 @@
 ghost use Rattle.rail_floor.specs.Laws.{LegsAreListed};
 
 /// The exits of a place, and the lengths of its legs, are those of the legs that the floor lists.
-pub fn legs_are_listed() -> u8
+pub fn legs_are_listed()
     ensures { LegsAreListed }
-{
-    0
-}
+{}

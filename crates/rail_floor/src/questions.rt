@@ -2,7 +2,7 @@
 
 ghost use Rattle.std.specs.Prelude.{◌≡◌, ◌<◌, ◌≤◌, length, Some, None};
 ghost use Rattle.std.specs.List.{slice_get};
-ghost use Rattle.rail_floor.specs.Rails.{below, exits_of, length_of};
+ghost use Rattle.rail_floor.specs.Rails.{below, legs_at, exits_of, length_of};
 ghost use Rattle.rail_floor.specs.Held.{places_of, legs_of};
 ghost use Rattle.rail_floor.specs.Ordered.{rail_fit, exits_sorted, exits_inside, exits_away, exits_beyond, length-led, length_long, length_short};
 
@@ -12,20 +12,22 @@ use floors::floor::{Floor, Measured};
 
 impl RailFloor {
     /// Where the legs from a place begin; at the number of places, where the last end.
-    fn first_of(&self, place: u16) -> u16
+    fn first_of(&self, place: u16) -> usize
         requires { place ≤ places_of self.now }
         ensures { result ≡ below (legs_of self.now) place }
     {
-        self.first[usize::from(place)]
+        usize::from(self.first[usize::from(place)])
     }
 
-    /// Leg `i` of those from a place.
-    fn leg(&self, place: u16, i: u16) -> Leg
-        requires { i < length (exits_of (legs_of self.now) place) }
-        ensures leads { slice_get (exits_of (legs_of self.now) place) i ≡ Some result.to }
-        ensures measures { length_of (legs_of self.now) place result.to ≡ Some result.length }
+    /// The legs that begin at a place; none beyond the floor.
+    #[tactic(auto, using(crate::proofs::Indexed::below_next, crate::proofs::Indexed::below_le))]
+    fn legs_from(&self, place: u16) -> &[Leg]
+        ensures { result.now ≡ legs_at (legs_of self.now) place }
     {
-        self.legs[usize::from(self.first_of(place)) + usize::from(i)]
+        if place >= self.places {
+            return &[];
+        }
+        &self.legs[self.first_of(place)..self.first_of(place + 1)]
     }
 }
 
@@ -51,17 +53,11 @@ impl Floor for RailFloor {
     }
 
     fn exit_count(&self, place: u16) -> u16 {
-        if place >= self.places {
-            return 0;
-        }
-        self.first_of(place + 1) - self.first_of(place)
+        self.legs_from(place).len() as u16
     }
 
     fn exit(&self, place: u16, i: u16) -> Option<u16> {
-        if i >= self.exit_count(place) {
-            return None;
-        }
-        Some(self.leg(place, i).to)
+        self.legs_from(place).get(usize::from(i)).map(|leg| leg.to)
     }
 }
 
@@ -74,22 +70,11 @@ impl Measured for RailFloor {
 
     ghost short = { λ f p q d. length_short f.places None (legs_of f) p q d (rail_fit _ _ f.fit).order };
 
-    /// The legs from a place are in rising order of where they lead, so each turn puts half of those left aside.
+    /// The legs from a place are in rising order of where they lead.
     fn length(&self, from: u16, to: u16) -> Option<u16> {
-        let mut low = 0;
-        let mut high = self.exit_count(from);
-        while low < high {
-            let middle = low + (high - low) / 2;
-            let leg = self.leg(from, middle);
-            if leg.to == to {
-                return Some(leg.length);
-            }
-            if leg.to < to {
-                low = middle + 1;
-            } else {
-                high = middle;
-            }
-        }
-        None
+        let legs = self.legs_from(from);
+        legs.binary_search_by_key(&to, |leg| leg.to)
+            .ok()
+            .map(|at| legs[at].length)
     }
 }

@@ -4,6 +4,7 @@ ghost use Rattle.rail_floor.specs.Rails.{fits_rail, below};
 use crate::legs::Leg;
 
 /// A rail floor. `first[p]` says where the legs from place p begin in `legs`, and one entry more says where the last end.
+// Kept: one list and where each place's part begins, since `legs` lends all of them, and no exit is looked for among all.
 #[derive(Drop)]
 pub struct RailFloor {
     pub(crate) places: u16,

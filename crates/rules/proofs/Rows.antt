@@ -1,34 +1,37 @@
--- The rows of the searches: what each turn of each loop gives.
-use Rattle.std.proofs.Common.{ℕ, suc, not, eqb, Option}
-use Rattle.plans.specs.Plan.{Plan}
-use Rattle.laws.specs.Paths.{carriers, start, goal, entries, entry, last}
-use Rattle.laws.specs.Rules.{or_else, first, when}
-use Rattle.rules.specs.declared.ends.End.{End}
-use Rattle.rules.specs.Tests.{lacks_leg, shares_end, is_foreign}
+-- What the searches find, as the first that is found of a carrier.
+use Rattle.std.proofs.Common.{◌≡◌, ℕ, suc, Option, refl}
+use Rattle.plans.specs.Plan.{Plan, carrier}
+use Rattle.laws.specs.Paths.{carriers, entry, last}
+use Rattle.laws.specs.Rules.{first, when, wrong_end, no_leg, first_equal, foreign_goal}
+use Rattle.rules.specs.Routes.{wrong_end_of, legless_of, is_foreign, last_of}
+use Rattle.rules.specs.Searches.{like}
 
-abbrev pub pathless : Plan → ℕ → Option ℕ
-pathless p c = when (eqb (entries p c) 0) c
+pub first-wrong_end_of : (p : Plan) → first (carriers p) (λ c. wrong_end_of c (carrier p c)) ≡ wrong_end p
+unfolding wrong_end wrong_end_of entry last
+first-wrong_end_of p = refl
 
-abbrev pub wrong_ends : Plan → ℕ → Option (ℕ × ℕ)
-wrong_ends p c = or_else (when (not (eqb (entry p c 0) (start p c))) (c, 0)) (when (not (eqb (entry p c (last p c)) (goal p c))) (c, last p c))
+pub first-legless_of : (p : Plan) → first (carriers p) (λ c. legless_of p.floor c (carrier p c)) ≡ no_leg p
+unfolding no_leg legless_of entry last
+first-legless_of p = refl
 
-abbrev pub legless_at : Plan → ℕ → ℕ → Option (ℕ × ℕ)
-legless_at p c t = when (lacks_leg p c t) (c, suc t)
+pub first-like : (n : ℕ) (f : ℕ → ℕ) → first n (like n f) ≡ first_equal n f
+unfolding like first_equal
+first-like n f = refl
 
-abbrev pub legless : Plan → ℕ → Option (ℕ × ℕ)
-legless p c = first (last p c) (legless_at p c)
-
-abbrev pub same_at : End → Plan → ℕ → ℕ → Option (ℕ × ℕ)
-same_at end p c d = when (shares_end end p c d) (c, d)
-
-abbrev pub same : End → Plan → ℕ → Option (ℕ × ℕ)
-same end p c = first (carriers p) (same_at end p c)
-
+-- the rows of the search for a foreign goal, which is written as loops
 abbrev pub foreign_to : Plan → ℕ → ℕ → ℕ → Option (ℕ × ℕ × ℕ)
-foreign_to p c t d = when (is_foreign p c t d) (c, suc t, d)
+foreign_to p c t d = when (is_foreign c (carrier p c) t d (carrier p d)) (c, suc t, d)
 
 abbrev pub foreign_at : Plan → ℕ → ℕ → Option (ℕ × ℕ × ℕ)
 foreign_at p c t = first (carriers p) (foreign_to p c t)
 
 abbrev pub foreign : Plan → ℕ → Option (ℕ × ℕ × ℕ)
 foreign p c = first (last p c) (foreign_at p c)
+
+pub first-foreign : (p : Plan) → first (carriers p) (foreign p) ≡ foreign_goal p
+unfolding foreign_goal entry
+first-foreign p = refl
+
+pub last_of-carrier : (p : Plan) (c : ℕ) → last_of (carrier p c) ≡ last p c
+unfolding last
+last_of-carrier p c = refl

@@ -1,6 +1,5 @@
 //! The rules that a plan is to keep, each as a search for the breach that is named.
 #![tactic(auto)]
 
-mod ends;
 pub mod paths;
 pub mod search;

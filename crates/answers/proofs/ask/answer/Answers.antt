@@ -1,11 +1,10 @@
-use Rattle.std.proofs.Common.{Result, sym, ap, ◌∙◌}
+use Rattle.std.proofs.Common.{Ok, Result, sym, ap, ◌∙◌}
 use Rattle.std.proofs.lemmas.Result.{err_from_is_err_and}
 use Rattle.plans.specs.Plan.{Plan}
 use Rattle.plans.specs.Held.{plan_of}
 use Rattle.files.specs.declared.faults.FileFault.{FileFault}
 use Rattle.files.specs.Parse.{parse}
 use Rattle.answers.specs.declared.answer.Account.{Account}
-use Rattle.answers.specs.declared.answer.Answer.TheVariants.{Read}
 use Rattle.answers.specs.Told.{told}
 use Rattle.answers.proofs.Telling.{read_is, refused_is, never_short}
 use Rattle.answers.proofs.ask.answer.Goals as goal
@@ -18,7 +17,7 @@ returns-in_err-rows c =
 pub returns-in-Ok : goal.returns-in-Ok
 returns-in-Ok c =
     let e = read_is _ _ c.in_ok-entries.ensures.len c.in_ok-rows.ensures.len (parse c.args.bytes.now) (plan_of c.in-Ok.plan) c.in-Ok.ensures.0 in
-    ap (λ (a : Account). Read a) c.account.ensures ∙ sym (ap (λ (x : Result Plan FileFault). told x) e)
+    ap (λ (a : Account). record { 0 = Ok a }) c.from.ensures ∙ sym (ap (λ (x : Result Plan FileFault). told x) e)
 
 pub returns-in-File : goal.returns-in-File
 returns-in-File c =

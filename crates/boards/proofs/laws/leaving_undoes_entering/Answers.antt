@@ -1,5 +1,9 @@
-use Rattle.boards.proofs.Calling.{leave_undoes}
+use Rattle.std.proofs.Common.{arith, rules}
+use Rattle.std.proofs.lemmas.Grind.{common_steps}
+use Rattle.std.proofs.lemmas.List.{set-set, set-get_or}
+use Rattle.boards.specs.Calls.{enter_answer, leave_answer}
 use Rattle.boards.proofs.laws.leaving_undoes_entering.Goals as goal
 
 pub returns : goal.returns
-returns c = leave_undoes
+unfolding enter_answer leave_answer
+returns c = λ n hs c p l g. (search rules, grind (arith, common_steps, set-set, set-get_or))

@@ -1,4 +1,4 @@
--- A carrier holds as many places as its two cells have.
+-- A carrier holds as many places as its cells have.
 use Rattle.std.proofs.Common.{rules}
 use Rattle.carrier_board.specs.Spreading.{held-cells}
 use Rattle.carrier_board.proofs.CarrierBoardBoard.count.Goals as goal

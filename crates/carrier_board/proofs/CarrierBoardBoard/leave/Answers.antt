@@ -1,62 +1,41 @@
--- Leaving: the place is in a cell of another carrier, in one of the carrier's own, or in none.
-use Rattle.std.proofs.Common.{◌/◌, ◌<◌, eqb, length, None, sym, ◌∙◌, arith, length-set, rules}
-use Rattle.std.proofs.lemmas.Bool.{cond-true, cond-false, eq-eqb, ne_eqb}
+-- Leaving: no cell of the carrier has the place, or the one that has it becomes free.
+use Rattle.std.proofs.Common.{◌≡◌, ◌<◌, false, length, nat_eq, position, Some, sym, ap, ◌∙◌, rules}
+use Rattle.std.specs.Option.{option_eq}
+use Rattle.boards.specs.Holders.{holder_of, is_holder}
 use Rattle.boards.specs.Calls.{leave_answer}
-use Rattle.boards.proofs.Holding.{none_below, all_below_set}
-use Rattle.boards.proofs.Granting.{leave_is, left_is}
-use Rattle.carrier_board.specs.Cells.{spread}
-use Rattle.carrier_board.specs.Parting.{apart_clear}
-use Rattle.carrier_board.specs.Spreading.{holder_found, spread_clear}
+use Rattle.boards.proofs.Granting.{may_leave, left_is}
+use Rattle.carrier_board.specs.Cells.{cells_of, spread}
+use Rattle.carrier_board.specs.Finding.{carries}
+use Rattle.carrier_board.specs.Spreading.{holder_spread}
+use Rattle.carrier_board.proofs.Looking.{not_found}
+use Rattle.carrier_board.proofs.Changing.{left_sound, holds}
 use Rattle.carrier_board.proofs.CarrierBoardBoard.leave.Goals as goal
 
-pub returns-then-place-ge-PLACES : goal.returns-then-place-ge-PLACES
+pub returns-in_err-cell : goal.returns-in_err-cell
 unfolding leave_answer
-returns-then-place-ge-PLACES c = search rules
-
-pub returns-then-carrier-ge-CARRIERS : goal.returns-then-carrier-ge-CARRIERS
-unfolding leave_answer
-returns-then-carrier-ge-CARRIERS c = search rules
-
-pub returns-then-holder-carrier : goal.returns-then-holder-carrier
-returns-then-holder-carrier c =
-    let xs = c.args.self.now.cells in
-    let p = c.args.place in
-    let k = c.args.carrier in
-    let hs = spread 1024 xs 0 in
-    let has = holder_found 1024 xs p _ (omega arith) c.in-Some.ensures.first in
-    let a = leave_is 1024 hs k p _ (omega arith) (omega arith) has ∙ cond-false (eqb (c.in-Some.cell / 2) k) _ _ (ne_eqb _ _ c.if-holder-carrier.true) in
-    record { answer = sym a; after = sym (left_is 1024 hs k p a) }
-
-pub returns-else-holder-carrier : goal.returns-else-holder-carrier
-returns-else-holder-carrier c =
+returns-in_err-cell c =
     let b = c.args.self.now in
-    let xs = b.cells in
-    let p = c.args.place in
     let k = c.args.carrier in
-    let j = c.in-Some.cell in
-    let hs = spread 1024 xs 0 in
-    let has = holder_found 1024 xs p _ (omega arith) c.in-Some.ensures.first in
-    let a = leave_is 1024 hs k p _ (omega arith) (omega arith) has ∙ cond-true (eqb (j / 2) k) _ _ (eq-eqb _ _ c.if-holder-carrier.false) in
-    record {
-      answer = sym a;
-      after = spread_clear 1024 xs 0 j p (omega arith) c.in-Some.ensures.found.1 b.apart ∙ sym (left_is 1024 hs k p a);
-    }
-
-pub returns-in-None : goal.returns-in-None
-returns-in-None c =
-    let xs = c.args.self.now.cells in
     let p = c.args.place in
-    let k = c.args.carrier in
-    let hs = spread 1024 xs 0 in
-    let a = leave_is 1024 hs k p _ (omega arith) (omega arith) (holder_found 1024 xs p _ (omega arith) c.in-None.ensures.first) in
-    record { answer = sym a; after = sym (left_is 1024 hs k p a) }
+    let other : is_holder (holder_of (spread 1024 b.cells) p) k ≡ false = ap (λ h. is_holder h k) (holder_spread 1024 b.cells p (search rules)) ∙ carries b.cells b.apart k p ∙ not_found (cells_of b.cells k) p (search rules) in
+    search rules
 
 pub invariant_of-self : goal.invariant_of-self
 invariant_of-self c =
     let b = c.args.self.now in
-    let j = c.in-Some.cell in
-    let l : j < length b.cells = omega (arith, b.long, c.in-Some.ensures.found.0) in record {
-      long = length-set b.cells j None ∙ b.long;
-      within = all_below_set 1024 b.cells j None b.within (none_below 1024);
-      apart = apart_clear b.cells j b.apart l;
-    }
+    let e = left_sound 1024 b.cells c.args.carrier c.in_ok-cell.cell c.args.place b.pairs b.within b.apart (search rules) (search rules) (search rules) in
+    rw c.from.ensures (record { long = search rules; pairs = e.pairs; within = e.within; apart = e.apart })
+
+pub returns : goal.returns
+returns c =
+    let b = c.args.self.now in
+    let hs = spread 1024 b.cells in
+    let k = c.args.carrier in
+    let p = c.args.place in
+    let j = c.in_ok-cell.cell in
+    let l : k < length b.cells = search rules in
+    let m : p < 1024 = search rules in
+    let looked : position (λ cell. option_eq nat_eq cell (Some p)) (cells_of b.cells k) ≡ Some j = search rules in
+    let a = may_leave 1024 hs k p (record { inside = m; carrier = search rules; mine = holds 1024 b.cells k j p b.pairs b.within b.apart l m looked }) in
+    let e = left_sound 1024 b.cells k j p b.pairs b.within b.apart l m looked in
+    rw c.from.ensures (record { answer = sym a; after = e.gives ∙ sym (left_is 1024 hs k p a) })

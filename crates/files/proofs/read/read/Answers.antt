@@ -11,6 +11,6 @@ use Rattle.files.proofs.read.read.Goals as goal
 
 pub unreachable-requires : goal.unreachable-requires
 unreachable-requires c =
-    let p = draft_of c.in-Ok-decode.draft in
-    let f = (and_parts (fits_layout p.floor) (fits_carriers (places p.floor) p.carriers) (file_ok c.args.bytes.now p c.in-Ok-decode.ensures).fit).1 in
-    true_false (ap (λ (cs : List Carrier). fits_carriers (places p.floor) (routes_of cs)) c.deref.ensures.value ∙ f) c.in-Err-new.ensures.0
+    let p = draft_of c.in-Ok.draft in
+    let f = (and_parts (fits_layout p.floor) (fits_carriers (places p.floor) p.carriers) (file_ok c.args.bytes.now p c.in-Ok.ensures).fit).1 in
+    true_false (ap (λ (cs : List Carrier). fits_carriers (places p.floor) (routes_of cs)) c.deref.ensures.value ∙ f) c.in_default.ensures.0

@@ -1,14 +1,14 @@
-use Rattle.std.proofs.Common.{true, false, sym, ◌∙◌, arith}
-use Rattle.plans.proofs.Fitting.{floor_next, floor_all}
+use Rattle.std.proofs.Common.{sym, ◌∙◌, rules, tests}
+use Rattle.std.proofs.lemmas.Iterator.{YieldsList-from_slice}
+use Rattle.std.proofs.lemmas.Iterator.Search.{all_from_yields_List}
+use Rattle.std.proofs.lemmas.List.Folds.{list_all-map}
+use Rattle.plans.specs.declared.carriers.Carrier.{Carrier}
+use Rattle.plans.specs.Plan.{on_floor, all_on_floor}
+use Rattle.plans.specs.Held.{route_of, routes_of}
 use Rattle.plans.proofs.fit.all_on_floor.Goals as goal
 
-pub returns-then-not-is_on_floor : goal.returns-then-not-is_on_floor
-returns-then-not-is_on_floor c =
-    sym (sym c.loop-carrier.invariant ∙ floor_next _ c.loop-carrier.carrier-index _ c.loop-carrier-test.true c.carrier-item.is _ false (sym c.if-not-is_on_floor.ensures))
-
-pub loop-carrier-preserved : goal.loop-carrier-preserved
-loop-carrier-preserved c =
-    sym (floor_next _ c.loop-carrier.carrier-index _ c.loop-carrier-test.true c.carrier-item.is _ true (sym c.if-not-is_on_floor.ensures)) ∙ c.loop-carrier.invariant
-
 pub returns : goal.returns
-returns c = sym (sym c.loop-carrier.invariant ∙ floor_all _ c.loop-carrier.carrier-index (omega arith) _)
+unfolding all_on_floor routes_of
+returns c =
+    all_from_yields_List (λ (x : Carrier). on_floor c.args.places (route_of x)) _ _ _ c.all.ensures.ran (YieldsList-from_slice c.args.carriers.now cc) (λ x b q k. search (rules, tests))
+    ∙ sym (list_all-map (on_floor c.args.places) route_of c.args.carriers.now)

@@ -1,16 +1,13 @@
-use Rattle.std.proofs.Common.{sym, ◌∙◌, arith}
-use Rattle.plans.proofs.Fitting.{paths_more, paths_stop, paths_all}
+use Rattle.std.proofs.Common.{Bor, refl, ◌∙◌, rules, tests}
+use Rattle.std.proofs.iter.Yields.{fronts}
+use Rattle.std.proofs.lemmas.Iterator.{YieldsList-from_slice}
+use Rattle.plans.specs.declared.carriers.Carrier.{Carrier}
+use Rattle.plans.proofs.Room.{room_left}
 use Rattle.plans.proofs.fit.paths_fit.Goals as goal
 
-pub returns-then-count-room : goal.returns-then-count-room
-returns-then-count-room c =
-    sym (sym c.loop-carrier.invariant.1 ∙ paths_stop _ c.loop-carrier.carrier-index _ c.loop-carrier-test.true c.carrier-item.is _ _ c.len-count.ensures c.if-count-room.true)
-
-pub loop-carrier-preserved : goal.loop-carrier-preserved
-loop-carrier-preserved c = (
-  omega arith,
-  sym (paths_more _ c.loop-carrier.carrier-index _ c.loop-carrier-test.true c.carrier-item.is _ _ c.len-count.ensures c.if-count-room.false) ∙ c.loop-carrier.invariant.1,
-)
-
 pub returns : goal.returns
-returns c = sym (sym c.loop-carrier.invariant.1 ∙ paths_all _ c.loop-carrier.carrier-index (omega arith) _)
+returns c =
+    let k = c.try_fold.ensures.ran in
+    c.is_some.ensures
+    ∙ room_left _ fronts (λ (y : Bor Carrier). y.now) _ (tt {0}) (λ room x left q h. search (rules, tests)) k.0 c.args.carriers.now (tt {0}, 2048) _
+    c.iter.result k.4.0 c.try_fold.new.self k.1 c.try_fold.result refl (YieldsList-from_slice {s = c.iter.result} c.args.carriers.now cc).runs k.4.1 k.4.2 k.5 k.6

@@ -1,15 +1,11 @@
-use Rattle.std.proofs.Common.{None, arith}
-use Rattle.std.proofs.lemmas.Option.{slice_get-get_or}
-use Rattle.rail_floor.proofs.Indexed.{below_le, below_passed, below_stops}
+use Rattle.std.proofs.Common.{None, ltb, sym, rules}
+use Rattle.std.proofs.lemmas.List.Sorted.{IsPartitionPoint-from_clause, IsPartitionedBy-ltb}
+use Rattle.rail_floor.specs.declared.legs.Leg.{Leg}
+use Rattle.rail_floor.proofs.Indexed.{rise_by_from, below_point}
 use Rattle.rail_floor.proofs.build.legs_below.Goals as goal
 
-pub loop-next-preserved : goal.loop-next-preserved
-loop-next-preserved c =
-    omega (arith, below_passed c.requires.order.0 None c.args.legs.now c.args.place c.loop-next.next _ c.requires.order.1 (slice_get-get_or _ _ _ c.loop-next-test.true) c.if-legs-next.true)
-
-pub returns-else-legs-next : goal.returns-else-legs-next
-returns-else-legs-next c =
-    omega (arith, below_stops c.requires.order.0 None c.args.legs.now c.args.place c.loop-next.next _ c.requires.order.1 (slice_get-get_or _ _ _ c.loop-next-test.true) c.if-legs-next.false)
-
-pub returns-after-loop-next : goal.returns-after-loop-next
-returns-after-loop-next c = omega (arith, below_le c.args.legs.now c.args.place)
+pub returns-clause-count : goal.returns-clause-count
+returns-clause-count c =
+    let parted = IsPartitionedBy-ltb (λ (l : Leg). l.from) _ c.args.place (rise_by_from c.requires.0 None c.args.legs.now c.requires.1) in
+    sym (below_point c.args.legs.now c.args.place _ c.partition_point.ensures.bound
+    (IsPartitionPoint-from_clause (λ (l : Leg). ltb l.from c.args.place) _ _ c.partition_point.ensures.partitioned parted (λ a r q k. search rules)))

@@ -1,9 +1,10 @@
-use Rattle.std.proofs.Common.{◌≡◌, ℕ, true, is_some, Some, None, Option, sym, refl, ap, ◌∙◌, arith}
+use Rattle.std.proofs.Common.{◌≡◌, ℕ, true, is_some, Some, None, Option, sym, refl, ap, ◌∙◌}
+use Rattle.std.proofs.lemmas.Bool.{false≢true}
 use Rattle.rail_floor.specs.Ordered.{rail_fit, length-led, length-listed, listed-length}
 use Rattle.rail_floor.proofs.laws.legs_are_listed.Goals as goal
 
 some_is : (o : Option ℕ) → is_some o ≡ true → (d : ℕ) × (o ≡ Some d)
-some_is None h = let z : ◌≡◌ {A = ℕ} 0 1 = cc in absurd (omega arith)
+some_is None h = absurd (false≢true h)
 some_is (Some d) h = (d, refl)
 
 pub returns : goal.returns

@@ -1,18 +1,14 @@
-use Rattle.std.proofs.Common.{sym, refl, ◌∙◌}
-use Rattle.hall_floor.specs.Halls.{hall_exits}
-use Rattle.hall_floor.proofs.Turns.{exit_later, exit_same}
+use Rattle.std.proofs.Common.{rules}
+use Rattle.std.proofs.lemmas.Iterator.{YieldsList-from_slice}
+use Rattle.std.proofs.lemmas.Iterator.Adapters.{option_map_id}
+use Rattle.std.proofs.lemmas.Iterator.Consumers.{YieldsList-from_filter_map, nth_from_yields_List}
+use Rattle.hall_floor.specs.Halls.{over, sides, hall_exits}
+use Rattle.hall_floor.specs.Held.{hall_of}
 use Rattle.hall_floor.proofs.questions.HallFloorFloor.exit.Goals as goal
-use Rattle.hall_floor.proofs.questions.HallFloorFloor.exit.Goals.{in-Some+else-left-eq0, in_default}
 
-pub loop-side-init : goal.loop-side-init
+pub returns : goal.returns
 unfolding hall_exits
-loop-side-init c = refl
-
-pub loop-side-preserved : goal.loop-side-preserved
-loop-side-preserved c =
-    elim c.match-over.branch [
-      | in-Some+else-left-eq0 w ↦ rw w.left-is
-          (sym (exit_later _ _ _ _ c.loop-side.left c.loop-side-test.true w.in-Some.ensures w.if-left-eq0.false) ∙ c.loop-side.invariant)
-      | in_default w ↦ rw w.left-is
-          (sym (exit_same _ _ _ c.loop-side.left c.loop-side-test.true w.in_default.ensures) ∙ c.loop-side.invariant)
-    ]
+returns c =
+    let reached = nth_from_yields_List c.nth.result c.nth.new.self c.from.result c.nth.ensures.ran
+    (YieldsList-from_filter_map _ (over (hall_of c.args.self.now) c.args.place) (YieldsList-from_slice sides cc) c.filter_map.ensures.closure (λ x r q k. search rules)) in
+    search (rules, option_map_id)

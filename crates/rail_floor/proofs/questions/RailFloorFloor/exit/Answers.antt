@@ -1,6 +1,9 @@
-use Rattle.std.proofs.Common.{sym, arith}
-use Rattle.std.proofs.lemmas.Option.{slice_get_past}
+use Rattle.std.proofs.Common.{arith}
+use Rattle.std.proofs.lemmas.Grind.{common_steps}
+use Rattle.std.proofs.lemmas.Option.{gets}
+use Rattle.rail_floor.specs.Held.{legs_of}
+use Rattle.rail_floor.proofs.Indexed.{slice_get-exits_of}
 use Rattle.rail_floor.proofs.questions.RailFloorFloor.exit.Goals as goal
 
-pub returns-then-i-exit_count : goal.returns-then-i-exit_count
-returns-then-i-exit_count c = sym (slice_get_past _ c.args.i (omega arith))
+pub returns : goal.returns
+returns c = rw (slice_get-exits_of (legs_of c.args.self.now) c.args.place c.args.i, ← c.legs_from.ensures) (grind (arith, common_steps, gets))

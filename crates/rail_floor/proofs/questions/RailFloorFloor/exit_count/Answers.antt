@@ -1,16 +1,16 @@
-use Rattle.std.proofs.Common.{length, None, sym, ap, arith}
+use Rattle.std.proofs.Common.{length, sym, ap, ◌∙◌, ◌+◌, ◌≤◌, arith, rules}
 use Rattle.rail_floor.specs.Held.{legs_of}
-use Rattle.rail_floor.specs.Ordered.{rail_fit, exits_beyond}
-use Rattle.rail_floor.proofs.Indexed.{below_next}
+use Rattle.rail_floor.specs.Ordered.{rail_fit}
+use Rattle.rail_floor.proofs.Indexed.{below_next, below_le, length-exits_of}
 use Rattle.rail_floor.proofs.questions.RailFloorFloor.exit_count.Goals as goal
 
-pub returns-then-place-self : goal.returns-then-place-self
-returns-then-place-self c =
+pub overflow_cast-result : goal.overflow_cast-result
+overflow_cast-result c =
     let f = c.args.self.now in
-    sym (ap length (exits_beyond f.places None (legs_of f) c.args.place (rail_fit _ _ f.fit).order (omega arith)))
-
-pub overflow_sub-result : goal.overflow_sub-result
-overflow_sub-result c = omega (arith, below_next (legs_of c.args.self.now) c.args.place)
+    let inside = below_le (legs_of f) (c.args.place + 1) in
+    let few : length c.legs_from.result.now ≤ 4096 =
+    omega (arith, ap length c.legs_from.ensures, below_next (legs_of f) c.args.place, inside, (rail_fit f.places (legs_of f) f.fit).few) in
+    search rules
 
 pub returns : goal.returns
-returns c = omega (arith, below_next (legs_of c.args.self.now) c.args.place)
+returns c = ap length c.legs_from.ensures ∙ sym (length-exits_of _ _)
