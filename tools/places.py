@@ -86,7 +86,7 @@ LINES = {
     "1 own enums": r"^(pub(\(crate\))? )?enum ",
     "1 numbers for kinds or refusals": r"const \w+: u\d+ = 0x|\bfn \w+\([^)]*\) -> u8$|: &'\w+ \[u\d+\],|heights: ",
     "1 results and options taken apart by hand": r"Ok\((\w+)\) => Ok\(\1\)|None => (Ok\()?None|Err\(\w+\) =>|return None;|return Err\(|Err\(_\) =>|Some\(\w+\) => |\} else \{ None \}",
-    "3 loops": r"(^|\s|: )(for \w+ in|for \(.*\) in|while|loop)\b",
+    "3 loops": r"(^|\s|: )(for [^{]* in|while|loop)\b",
     "4 casts": r"\bas (u8|u16|u32|u64|usize)\b",
     "4 impls of conversion, printing, order, copying": r"^impl.* (From<.*>|TryFrom<.*>|fmt::Display|PartialEq|Eq|Ord|PartialOrd|Clone|Copy) for ",
     "4 order and equality spelt out": r"\|\| \(.*==.*&&|== .* \|\| .* ==|\w+ < \d+ \|\| \w+ > \d+|\d+ <= \w+ && \w+ <= \d+|< \w+ \|\| \w+ <",

@@ -39,3 +39,7 @@ pub record MayLeave (n : ℕ) (hs : List (Option ℕ)) (c p : ℕ) : Type 0 wher
 pub may_leave : (n : ℕ) (hs : List (Option ℕ)) (c p : ℕ) → MayLeave n hs c p → leave_answer n hs c p ≡ Ok tt
 unfolding leave_answer
 may_leave n hs c p m = search rules
+
+pub leave_granted : (n : ℕ) (hs : List (Option ℕ)) (c p : ℕ) → leave_answer n hs c p ≡ Ok tt → MayLeave n hs c p
+unfolding leave_answer
+leave_granted n hs c p g = record { inside = search rules; carrier = search rules; mine = search rules }

@@ -1,6 +1,6 @@
 //! Reading a file one number after another.
 
-ghost use Rattle.std.specs.Prelude.{◌≡◌, ◌+◌, ◌<◌, ◌≤◌, ◌↔◌, IsTrue, length, take, drop, MatchResult, IfOk, OnOk};
+ghost use Rattle.std.specs.Prelude.{◌≡◌, ◌+◌, ◌≤◌, ◌↔◌, IsTrue, length, take, drop, IsOk, IfErr, IfOk, OnOk};
 ghost use Rattle.files.specs.Parse.{number_at, ranged_at};
 ghost use Rattle.files.specs.Marks.{mark_at};
 ghost use Rattle.files.specs.Position.{further, behind_mark};
@@ -106,7 +106,9 @@ impl<'b> Cursor<'b> {
 
     /// The next `count` bytes.
     pub(crate) fn take(&mut self, count: usize) -> Result<&'b [u8], FileFault>
-        ensures value { MatchResult result (λ b. (b.now ≡ take count (drop self.old.at self.old.bytes)) × (self.old.at + count ≤ length self.old.bytes)) (λ e. (e ≡ FileFault.Ends self.old.mark) × (length self.old.bytes < self.old.at + count)) }
+        ensures bytes { IfOk result (λ b. b.now ≡ take count (drop self.old.at self.old.bytes)) }
+        ensures there { IsOk result ↔ (self.old.at + count ≤ length self.old.bytes) }
+        ensures ends { IfErr result (λ e. e ≡ FileFault.Ends self.old.mark) }
         ensures moves { OnOk result (self.new ≡ further self.old count) }
     {
         let Some(bytes) = self.bytes[self.at..].get(..count) else {

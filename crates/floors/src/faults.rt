@@ -8,6 +8,7 @@ use std::alloc::{AllocError, AllocFailed};
 use std::error::Error;
 use std::fmt;
 
+/// Why a floor is not made.
 #[derive(Clone, Copy, PartialEq, Eq, Debug)]
 pub enum FloorFault {
     /// What was passed in is no such floor.
