@@ -32,6 +32,7 @@ pub enum ReadFault {
     Memory,
 }
 
+// Kept: three impls by hand, since the one that `thiserror` derives has no `from_gives`, and clauses read it.
 impl From<FileFault> for ReadFault {
     ghost from_gives = { λ f r. r ≡ File f };
 
@@ -40,7 +41,6 @@ impl From<FileFault> for ReadFault {
     }
 }
 
-// Kept: written out for either error of memory, since a derived `From` says nothing of what `?` makes of it.
 impl From<AllocError> for ReadFault {
     ghost from_gives = { λ _ r. r ≡ Memory };
 

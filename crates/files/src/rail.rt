@@ -44,7 +44,7 @@ fn read_legs(
 {
     let mut legs = Vec::new(heap);
     let mut before = None;
-    // Kept: as a chain into `try_collect` it did not prove, since nothing is known of the cursor that the closure moves.
+    // Kept: a twin of the loop in `read_entries`, which as a chain into `try_collect` did not prove; this one also carries the leg before.
     for _ in 0..count {
         let leg = read_leg(cursor, size, before)?;
         legs.push(leg)?;

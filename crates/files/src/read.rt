@@ -17,6 +17,7 @@ pub fn read(
     ensures { Reads bytes.now entries rows result }
 {
     let tables = Tables::new(entries, rows)?;
+    // Kept: a `match`, since a closure for `map_err` would take the tables on both ways.
     let Draft { floor, carriers } = match decode(heap, bytes) {
         Ok(draft) => draft,
         Err(fault) => return Err(ReadRefused::new(tables, fault)),

@@ -1,5 +1,5 @@
-ghost use Rattle.std.specs.Prelude.{◌≡◌, ◌≤◌, ◌&&◌, length, ◌==◌};
-ghost use Rattle.hall_floor.specs.Halls.{bytes_for, spare_free, fits_hall};
+ghost use Rattle.std.specs.Prelude.{◌≡◌};
+ghost use Rattle.hall_floor.specs.Halls.{bytes_for, spare_free};
 ghost use Rattle.hall_floor.specs.Held.{MakesHall};
 
 use crate::hall::HallFloor;

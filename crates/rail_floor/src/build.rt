@@ -29,15 +29,12 @@ fn leg_fits(places: u16, before: Option<Leg>, leg: Leg) -> bool
 fn legs_fit(places: u16, legs: &[Leg]) -> bool
     ensures { result ≡ fits_legs places None legs.now }
 {
-    // Kept: each leg is tested against the one before it; a fold that carries that one is longer.
-    let mut before = None;
-    for &leg in legs {
-        if !leg_fits(places, before, leg) {
-            return false;
-        }
-        before = Some(leg);
-    }
-    true
+    legs.iter()
+        .try_fold(
+            None,
+            |before, &leg| leg_fits(places, before, leg).then_some(Some(leg)),
+        )
+        .is_some()
 }
 
 /// Whether these places and legs make a rail floor.

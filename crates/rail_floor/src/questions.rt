@@ -1,7 +1,6 @@
 //! What a rail floor tells of itself.
 
-ghost use Rattle.std.specs.Prelude.{◌≡◌, ◌<◌, ◌≤◌, length, Some, None};
-ghost use Rattle.std.specs.List.{slice_get};
+ghost use Rattle.std.specs.Prelude.{◌≡◌, ◌≤◌, None};
 ghost use Rattle.rail_floor.specs.Rails.{below, legs_at, exits_of, length_of};
 ghost use Rattle.rail_floor.specs.Held.{places_of, legs_of};
 ghost use Rattle.rail_floor.specs.Ordered.{rail_fit, exits_sorted, exits_inside, exits_away, exits_beyond, length-led, length_long, length_short};
