@@ -27,7 +27,7 @@ impl fmt::Display for Account {
             legs,
             carriers,
             entries,
-        } = *self;
+        } = self;
         write!(
             f,
             "{kind} places {places} legs {legs} carriers {carriers} entries {entries}"

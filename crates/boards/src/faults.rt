@@ -7,6 +7,7 @@ ghost use Rattle.boards.specs.Refusals.{refusal};
 use std::error::Error;
 use std::fmt;
 
+/// Why a board refuses.
 #[derive(Clone, Copy, PartialEq, Eq, Debug)]
 pub enum BoardFault {
     /// The board has no such place.

@@ -17,7 +17,7 @@ fn digit(b: u8) -> Option<u8> {
 }
 
 /// The bytes that a hexadecimal text says.
-// Kept: the kit's `hex` takes capitals and words a bad text otherwise, so the program would not do what it did.
+// Kept: chunks of two, or the kit's `hex`, are no plainer, since a last digit that stands alone is read and left out here.
 fn bytes_of(heap: Global, hex: &str) -> anyhow::Result<Vec<u8>> {
     let mut bytes = Vec::new(heap);
     let mut high = None;

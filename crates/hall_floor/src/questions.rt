@@ -88,6 +88,7 @@ impl Floor for HallFloor {
             .count() as u16
     }
 
+    // Kept: the chain stands twice, since no function can hand one out.
     #[tactic(auto, unfolding(crate::specs::Halls::hall_exits))]
     fn exit(&self, place: u16, i: u16) -> Option<u16> {
         SIDES

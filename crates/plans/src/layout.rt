@@ -25,6 +25,7 @@ impl<'c> Fitting<'c> {
         ensures fit { is_some result ≡ fits_carriers places (routes_of carriers.now) }
         ensures same { IfSome result (λ f. f.carriers.now ≡ carriers.now) }
     {
+        // Kept: a closure for `then` would have to require what the invariant says, and in this form the check finds it.
         if carriers_fit(places, carriers) {
             Some(Fitting { carriers })
         } else {

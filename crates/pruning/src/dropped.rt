@@ -1,5 +1,5 @@
 /// What was found out about each leg of a plan: one with a height is dropped from the search, one without is kept.
-// Kept: one table and where each carrier's part begins, since carriers have any number of legs, 2,048 together at most.
+// Kept: a list for each carrier would be memory that can run out; in one array, `offsets` says where each carrier's part begins.
 #[derive(Clone, Copy)]
 pub struct Dropped {
     /// For each carrier, where the heights of its legs begin.

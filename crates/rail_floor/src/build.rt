@@ -37,14 +37,6 @@ fn legs_fit(places: u16, legs: &[Leg]) -> bool
         .is_some()
 }
 
-/// Whether these places and legs make a rail floor.
-// Kept: a struct of places and legs is no plainer, since `RailFloor` is that struct and holds only what fits.
-fn rail_fits(places: u16, legs: &[Leg]) -> bool
-    ensures { result ≡ fits_rail places legs.now }
-{
-    (1..=1024).contains(&places) && legs.len() <= 4096 && legs_fit(places, legs)
-}
-
 /// How many legs begin below a place.
 fn legs_below(legs: &[Leg], place: u16) -> usize
     requires { (places : ℕ) × (fits_legs places None legs.now ≡ true) }
@@ -69,7 +61,10 @@ impl RailFloor {
     pub fn new(heap: Global, places: u16, legs: Vec<Leg>) -> Result<RailFloor, FloorFault>
         ensures { Makes (fits_rail places legs.items) (IsRail places legs.items) result }
     {
-        if !rail_fits(places, legs.as_slice()) {
+        let fits = (1..=1024).contains(&places)
+            && legs.len() <= 4096
+            && legs_fit(places, legs.as_slice());
+        if !fits {
             return Err(FloorFault::Unfit);
         }
         let first = index(heap, places, legs.as_slice())?;

@@ -69,7 +69,7 @@ impl Measured for RailFloor {
 
     ghost short = { λ f p q d. length_short f.places None (legs_of f) p q d (rail_fit _ _ f.fit).order };
 
-    /// The legs from a place are in rising order of where they lead.
+    /// The length of the leg between two places: found by halving, since the legs from a place rise by where they lead.
     fn length(&self, from: u16, to: u16) -> Option<u16> {
         let legs = self.legs_from(from);
         legs.binary_search_by_key(&to, |leg| leg.to)

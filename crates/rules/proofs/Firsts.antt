@@ -95,7 +95,3 @@ pub first_from_find : {A : Type 0} (n : ℕ) (t : ℕ → Bool) (h : ℕ → A) 
 first_from_find n t h None d = sym (none_first n (λ c. when (t c) (h c)) (λ i l. rw (d i (omega arith) l) refl))
 first_from_find n t h (Some i) d =
     sym (first_hit n i (λ c. when (t c) (h c)) (h i) d.1 (none_first i (λ c. when (t c) (h c)) (λ j l. rw (d.3 j (omega arith) l) refl)) (rw d.2 refl))
-
-pub option_map_id : {A : Type 0} (r : Option A) → option_map (λ x. x) r ≡ r
-option_map_id None = refl
-option_map_id (Some x) = refl

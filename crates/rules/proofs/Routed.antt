@@ -1,10 +1,11 @@
 -- What is read of a plan's carriers.
-use Rattle.std.proofs.Common.{◌≡◌, ℕ, zero, suc, ◌≤◌, List, [], ◌∷◌, length, get_or, unwrap_or, sym, refl, arith, length-append}
+use Rattle.std.proofs.Common.{◌≡◌, ℕ, zero, suc, ◌<◌, ◌≤◌, List, [], ◌∷◌, length, get_or, Some, unwrap_or, sym, refl, arith, length-append}
 use Rattle.std.specs.Option.{option_map}
 use Rattle.std.specs.List.{slice_get}
 use Rattle.plans.specs.declared.plans.ReadPlan.{ReadPlan}
-use Rattle.plans.specs.Plan.{Route, nobody, entries_of, carrier}
+use Rattle.plans.specs.Plan.{Plan, Route, nobody, entries_of, carrier}
 use Rattle.plans.specs.Held.{plan_of}
+use Rattle.laws.specs.Paths.{carriers, goal}
 use Rattle.plans.proofs.Facts.{entries_few}
 
 -- what is read of a list's element, or 0 beyond the list
@@ -23,3 +24,12 @@ path_few (r ∷ rs) (suc c) = omega (arith, length-append r.path (entries_of rs)
 -- no path of a plan that was read has more than 2,048 entries
 pub path_short : (p : ReadPlan) (c : ℕ) → length (carrier (plan_of p) c).path ≤ 2048
 path_short p c = omega (arith, path_few (plan_of p).carriers c, entries_few p)
+
+-- the goal of a carrier that there is
+pub goal_at : (p : Plan) (c : ℕ) → c < carriers p → option_map (λ (r : Route). r.goal) (slice_get p.carriers c) ≡ Some (goal p c)
+goal_at p c l = go p.carriers c l
+  where
+    go : (rs : List Route) (c : ℕ) → c < length rs → option_map (λ (r : Route). r.goal) (slice_get rs c) ≡ Some (get_or rs c nobody).goal
+    go [] c l = absurd (omega arith)
+    go (r ∷ rs) zero l = refl
+    go (r ∷ rs) (suc c) l = go rs c (omega arith)

@@ -1,5 +1,6 @@
 -- What a route that code reads means, and what is found in one.
-use Rattle.std.specs.Prelude.{ℕ, suc, pred, Bool, not, ◌&&◌, length, Option, ◌==◌, slice_index}
+use Rattle.std.specs.Prelude.{ℕ, suc, pred, Bool, not, ◌&&◌, length, Some, Option, nat_eq, ◌==◌, slice_index}
+use Rattle.std.specs.Option.{option_eq}
 use Rattle.floors.specs.Exits.{has}
 use Rattle.store_floor.specs.Layout.{Layout, exits_from}
 use Rattle.plans.specs.Plan.{Route}
@@ -25,6 +26,6 @@ lacks_leg floor r t = not (has (slice_index r.path (suc t)) (exits_from floor (s
 unfoldable pub legless_of : Layout → ℕ → Route → Option (ℕ × ℕ)
 legless_of floor c r = first (last_of r) (λ t. when (lacks_leg floor r t) (c, suc t))
 
--- the entry after entry t of carrier c is where carrier d, another, is to go
-abbrev pub is_foreign : ℕ → Route → ℕ → ℕ → Route → Bool
-is_foreign c r t d s = not (c == d) && slice_index r.path (suc t) == s.goal
+-- the entry after entry t of carrier c is where carrier d, another, is to go; `goal` is that place, if there is such a carrier
+abbrev pub is_foreign : ℕ → Route → ℕ → ℕ → Option ℕ → Bool
+is_foreign c r t d goal = not (c == d) && option_eq nat_eq (Some (slice_index r.path (suc t))) goal

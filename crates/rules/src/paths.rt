@@ -10,6 +10,7 @@ use plans::plans::ReadPlan;
 use store_floor::store::StoreFloor;
 
 /// A carrier's number, where it starts, where it is to go, and its path. An unknown carrier has 0, 0 and no path.
+// Kept: 0 stands for what is not there, as in the definitions of the rules, which say something of every number.
 #[derive(Clone, Copy)]
 pub struct Route<'p> {
     pub carrier: u8,
@@ -35,11 +36,18 @@ impl<'p> Route<'p> {
         }
     }
 
+    /// What stands at a place of the path.
+    fn at(&self, i: usize) -> u16
+        ensures { result ≡ slice_index self.now.path.now i }
+    {
+        self.path.get(i).copied().unwrap_or(0)
+    }
+
     /// Entry `t` of the path.
     pub fn entry(&self, t: u16) -> u16
         ensures { result ≡ slice_index self.now.path.now t }
     {
-        self.path.get(usize::from(t)).copied().unwrap_or(0)
+        self.at(usize::from(t))
     }
 
     /// The number of the last entry, which is the number of legs.
@@ -54,9 +62,10 @@ impl<'p> Route<'p> {
     pub fn end(&self, t: u16) -> u16
         ensures { result ≡ slice_index self.now.path.now (t + 1) }
     {
-        self.path.get(usize::from(t) + 1).copied().unwrap_or(0)
+        self.at(usize::from(t) + 1)
     }
     /// The first of the two ends of the path that is not where the route is to begin or to end.
+    #[tactic(auto, unfolding(crate::specs::Routes::wrong_end_of))]
     pub(crate) fn wrong_end(&self) -> Option<(u8, u16)>
         ensures { result ≡ wrong_end_of self.now.carrier (route_of self.now) }
     {
@@ -87,10 +96,10 @@ impl<'p> Route<'p> {
             .map(|t| (carrier, t + 1))
     }
 
-    /// Whether the entry after entry `t` is the goal of this other carrier.
-    pub(crate) fn is_foreign(&self, t: u16, owner: &Route<'_>) -> bool
-        ensures { result ≡ is_foreign self.now.carrier (route_of self.now) t owner.now.carrier (route_of owner.now) }
+    /// Whether the entry after entry `t` is the goal, if there is one, of this other carrier.
+    pub(crate) fn is_foreign(&self, t: u16, owner: u8, goal: Option<u16>) -> bool
+        ensures { result ≡ is_foreign self.now.carrier (route_of self.now) t owner goal }
     {
-        self.carrier != owner.carrier && self.end(t) == owner.goal
+        self.carrier != owner && Some(self.end(t)) == goal
     }
 }

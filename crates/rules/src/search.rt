@@ -2,7 +2,7 @@ ghost use Rattle.std.specs.Prelude.{◌≡◌};
 ghost use Rattle.plans.specs.Held.{plan_of};
 ghost use Rattle.laws.specs.Paths.{carriers};
 ghost use Rattle.laws.specs.Rules.{no_path, wrong_end, no_leg, equal_starts, equal_goals, foreign_goal};
-ghost use Rattle.rules.specs.Searches.{FindsLike, FindsEqual};
+ghost use Rattle.rules.specs.Searches.{FindsEqualAbove, FindsEqual};
 
 use crate::paths::Route;
 use plans::plans::ReadPlan;
@@ -30,9 +30,9 @@ pub fn no_leg(plan: &ReadPlan) -> Option<(u8, u16)>
 }
 
 /// This carrier, and the lowest one above it of which `end` gives the same.
-fn like<F: Fn(u8) -> u16>(plan: &ReadPlan, end: &F, carrier: u8) -> Option<(u8, u8)>
+fn equal_above<F: Fn(u8) -> u16>(plan: &ReadPlan, end: &F, carrier: u8) -> Option<(u8, u8)>
     requires { F.IsAlwaysCallable end.now }
-    ensures { FindsLike (F.post end.now) (carriers (plan_of plan.now)) carrier result }
+    ensures { FindsEqualAbove (F.post end.now) (carriers (plan_of plan.now)) carrier result }
 {
     (0..plan.carrier_count())
         .find(|&other| carrier < other && end(carrier) == end(other))
@@ -44,7 +44,7 @@ fn equal_ends<F: Fn(u8) -> u16>(plan: &ReadPlan, end: F) -> Option<(u8, u8)>
     requires { F.IsAlwaysCallable end }
     ensures { FindsEqual (F.post end) (carriers (plan_of plan.now)) result }
 {
-    (0..plan.carrier_count()).find_map(|carrier| like(plan, &end, carrier))
+    (0..plan.carrier_count()).find_map(|carrier| equal_above(plan, &end, carrier))
 }
 
 /// The lowest carrier that starts where a higher one does, with the lowest such.
@@ -71,7 +71,7 @@ pub fn foreign_goal(plan: &ReadPlan) -> Option<(u8, u16, u8)>
             let route = Route::of(plan, carrier);
             for t in 0..route.last() {
                 for owner in 0..plan.carrier_count() {
-                    if route.is_foreign(t, &Route::of(plan, owner)) {
+                    if route.is_foreign(t, owner, plan.goal(owner)) {
                         break 'search Some((carrier, t + 1, owner));
                     }
                 }

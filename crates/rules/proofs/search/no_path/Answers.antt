@@ -3,7 +3,8 @@ use Rattle.std.proofs.lemmas.Iterator.{first_from_Range}
 use Rattle.plans.specs.Held.{plan_of}
 use Rattle.laws.specs.Paths.{entries}
 use Rattle.laws.specs.Rules.{no_path, first, when}
-use Rattle.rules.proofs.Firsts.{first_from_find, option_map_id}
+use Rattle.rules.proofs.Firsts.{first_from_find}
+use Rattle.std.proofs.lemmas.Iterator.Adapters.{option_map_id}
 use Rattle.rules.proofs.search.no_path.Goals as goal
 
 pub returns : goal.returns
