@@ -47,6 +47,7 @@ pub fn answer(heap: Global, bytes: &[u8]) -> Result<Answer, AllocError>
 {
     let entries = vec![in heap; 0u16; Tables::ENTRIES]?;
     let rows = vec![in heap; CarrierRow::NONE; Tables::ROWS]?;
+    // Kept: three refusals go three ways, to an answer, to an error and to what cannot be; `map` and `map_err` say it no shorter.
     match read(heap, bytes, entries, rows) {
         Ok(plan) => Ok(Answer(Ok(Account::from(&plan)))),
         Err(refused) => match refused.fault {

@@ -48,11 +48,13 @@ pub fn leaving_undoes_entering()
 {}
 
 /// Whatever is called on a new board, no carrier ever holds more than two places.
+#[tactic(auto, using(crate::proofs::Calling::never_more))]
 pub fn never_more_than_two()
     ensures { NeverMoreThanTwo }
 {}
 
 /// A board is empty exactly where each place is free.
+#[tactic(auto, using(crate::proofs::Emptiness::empty_free, crate::proofs::Emptiness::free_empty))]
 pub fn empty_is_all_free()
     ensures { EmptyIsAllFree }
 {}

@@ -1,6 +1,6 @@
 -- The legs of a hall join the open cells that share a side, and are as long as the pitches.
-use Rattle.std.proofs.Common.{◌≡◌, ℕ, ◌≤◌, true, ◌⊎◌, is_some, Some, None, Option, sym, refl, ap, ◌∙◌, inl, inr, arith}
-use Rattle.std.proofs.lemmas.Bool.{false≢true, and_parts, and_from, ltb-true, lt-ltb, not-true, not_from_false}
+use Rattle.std.proofs.Common.{◌≡◌, ℕ, ◌≤◌, true, ◌⊎◌, Some, None, Option, sym, refl, ap, ◌∙◌, inl, inr, arith}
+use Rattle.std.proofs.lemmas.Bool.{and_parts, and_from, ltb-true, lt-ltb, not-true, not_from_false}
 use Rattle.hall_floor.specs.declared.sides.Side.{Side}
 use Rattle.hall_floor.specs.declared.sides.Side.TheVariants.{North, West, East, South}
 use Rattle.hall_floor.specs.Halls.{Hall, is_open, pitch, hall_length}
@@ -54,16 +54,15 @@ column_pitch h some c d West l s = absurd (omega (arith, right_column h.width d 
 column_pitch h some c d East l s = absurd (omega (arith, right_column h.width c d l))
 column_pitch h some c d South l s = refl
 
-some_value : (o : Option ℕ) → is_some o ≡ true → (n : ℕ) × (o ≡ Some n)
-some_value None e = absurd (false≢true e)
-some_value (Some n) e = (n, refl)
-
 pub lengths_fit : LengthsArePitches
-lengths_fit h fit c d e =
-    let some = width_some h fit in
-    let v = some_value (hall_length h c d) (lengths_led h c d ∙ e) in
-    let p = lengths_pitch h c d v.0 v.1 in
-    let lies = (over_leads h some c d p.0 p.1).lies in (
-      (λ row. v.1 ∙ ap (λ (n : ℕ). Some n) (sym p.2 ∙ row_pitch h some c d p.0 lies row)),
-      (λ column. v.1 ∙ ap (λ (n : ℕ). Some n) (sym p.2 ∙ column_pitch h some c d p.0 lies column)),
-    )
+lengths_fit h fit c d e = go (hall_length h c d) refl
+  where
+    go : (o : Option ℕ) → hall_length h c d ≡ o → (SideBySide h c d → o ≡ Some h.across) × (OneBelowOther h c d → o ≡ Some h.down)
+    go None k = absurd (let l = lengths_led h c d in cc)
+    go (Some n) k =
+        let some = width_some h fit in
+        let p = lengths_pitch h c d n k in
+        let lies = (over_leads h some c d p.0 p.1).lies in (
+          (λ row. ap (λ (n : ℕ). Some n) (sym p.2 ∙ row_pitch h some c d p.0 lies row)),
+          (λ column. ap (λ (n : ℕ). Some n) (sym p.2 ∙ column_pitch h some c d p.0 lies column)),
+        )

@@ -1,15 +1,13 @@
 -- The searches for breaches of the rules find the least.
 use Rattle.std.proofs.Common.{◌≡◌, ℕ, zero, suc, pred, ◌-◌, ◌<◌, ◌≤◌, Bool, true, false, not, ◌&&◌, eqb, ltb, ◌≢◌, ◌⊎◌, Some, None, Option, sym, refl, ◌∙◌, subst, inl, inr, arith}
 use Rattle.std.proofs.lemmas.Bool.{cases_lt, cases_order, and_parts, and_from, eqb-true, eq-eqb, ne_eqb, ltb-true, lt-ltb}
+use Rattle.std.proofs.lemmas.Option.{none-some}
 use Rattle.floors.specs.Exits.{has}
 use Rattle.store_floor.specs.Layout.{exits_from}
 use Rattle.plans.specs.Plan.{Plan}
 use Rattle.laws.specs.Paths.{carriers, Carrier, start, goal, entries, entry, last}
 use Rattle.laws.proofs.Searched.{first_none, first_some}
 use Rattle.laws.specs.Rules.{or_else, first, when, NoPath, WrongEnd, NoLeg, ForeignGoal, no_path, wrong_end, no_leg, first_equal, foreign_goal, Least, NotBehind, LeastPair, LeastTriple, RulesAreSearched}
-
-none_some : {A : Type 0} {x : A} → None ≡ Some x → ⊥
-none_some e = let z : ◌≡◌ {A = ℕ} 0 1 = cc in omega arith
 
 -- what a search gives: nothing, and then none gave anything; or what the first gave that gave something
 pub record Finds {A : Type 0} (n : ℕ) (f : ℕ → Option A) (x : A) : Type 0 where
@@ -29,10 +27,10 @@ searched n f (Some x) e = let s = first_some n f x e in record { place = s.0; be
 -- a value that came by a test
 pub when_some : {A : Type 0} (b : Bool) (x y : A) → when b x ≡ Some y → (b ≡ true) × (x ≡ y)
 when_some true x y e = (refl, cc)
-when_some false x y e = absurd (none_some e)
+when_some false x y e = absurd (none-some y e)
 
 pub when_none : {A : Type 0} (b : Bool) (x : A) → b ≡ true → when b x ≡ None → ⊥
-when_none true x t e = none_some (sym e)
+when_none true x t e = none-some x (sym e)
 when_none false x t e = let z : ◌≡◌ {A = ℕ} 0 1 = cc in omega arith
 
 -- a search in each turn of a search: what it gives is the least breach, where a test at (c, t) says whether (c, h t) is one
@@ -126,14 +124,14 @@ module _ (p : Plan) where
 
   -- what the two tests of a carrier give
   both_right : (x y : ℕ × ℕ) (a b : Bool) → or_else (when a x) (when b y) ≡ None → (a ≡ false) × (b ≡ false)
-  both_right x y true b e = absurd (none_some (sym e))
-  both_right x y false true e = absurd (none_some (sym e))
+  both_right x y true b e = absurd (none-some x (sym e))
+  both_right x y false true e = absurd (none-some y (sym e))
   both_right x y false false e = (refl, refl)
 
   one_wrong : (x y z : ℕ × ℕ) (a b : Bool) → or_else (when a x) (when b y) ≡ Some z → ((a ≡ true) × (x ≡ z)) ⊎ ((a ≡ false) × (b ≡ true) × (y ≡ z))
   one_wrong x y z true b e = inl (refl, cc)
   one_wrong x y z false true e = inr (refl, refl, cc)
-  one_wrong x y z false false e = absurd (none_some e)
+  one_wrong x y z false false e = absurd (none-some z e)
 
   right_end : (m n : ℕ) → not (eqb m n) ≡ false → m ≢ n → ⊥
   right_end m n e k = let t = true_apart m n k in let z : ◌≡◌ {A = ℕ} 0 1 = cc in omega arith

@@ -1,26 +1,18 @@
 -- The lowest-numbered standstill.
-use Rattle.std.proofs.Common.{◌≡◌, ℕ, suc, pred, ◌<◌, ◌≤◌, Bool, true, false, ◌&&◌, ◌⊎◌, List, Some, None, Option, sym, refl, subst, inl, inr, arith}
+use Rattle.std.proofs.Common.{◌≡◌, ℕ, pred, ◌<◌, ◌≤◌, Bool, true, false, ◌&&◌, ◌⊎◌, Some, None, Option, sym, refl, subst, inl, inr, arith}
 use mathlib.Core.Path.{fun_ext}
 use Rattle.std.proofs.lemmas.Bool.Decides.{nat_tests}
 use Rattle.std.proofs.lemmas.List.{get_or_past}
-use Rattle.std.proofs.lemmas.Bool.{cases_eq, cases_lt, cases_Bool, and_parts, and_from, both_ways}
+use Rattle.std.proofs.lemmas.Bool.{cases_lt, cases_Bool, and_parts, and_from, both_ways}
 use Rattle.plans.specs.Plan.{Plan, nobody}
 use Rattle.laws.specs.Paths.{carriers, Carrier, entries, last, HavePaths}
 use Rattle.laws.specs.Rules.{first, when}
-use Rattle.laws.specs.Pictures.{Picture, LeadTo, begin, move, Reachable, Standstill}
+use Rattle.laws.specs.Pictures.{Picture, Reachable, Standstill}
 use Rattle.laws.specs.Judging.{pictures, number, picture, any, unfinished, can_move, reachable, still, lowest_standstill, Inside, FindsLowest, LowestStandstillIsFound}
 use Rattle.laws.proofs.Digits.{number_small, picture_of_lem, beyond}
 use Rattle.laws.proofs.Tested.{any_some, any_none, any_has, any_no, Lowest, lowest_is, can, cannot}
 use Rattle.laws.proofs.Marked.{computed_reached, reached_computed}
-
--- no carrier goes past its last entry
-not_further : (p : Plan) (cs : List ℕ) (x : Picture) → LeadTo p cs x → (c : ℕ) → x c ≤ last p c
-not_further p cs x (begin e) c = omega (arith, e c)
-not_further p cs y (move {cs = ds} {x = x} led c could moved) d = go (cases_eq c d) (not_further p ds x led d)
-  where
-    go : (c ≡ d) ⊎ (c ≡ d → ⊥) → x d ≤ last p d → y d ≤ last p d
-    go (inl e) h = let u : y d ≡ suc (x d) = rw e at moved.one in let w : (x d ≡ last p d → ⊥) = rw e at could.unfinished in omega arith
-    go (inr ne) h = omega (arith, moved.others d ne)
+use Rattle.laws.proofs.Waiting.{within}
 
 pred_below : (t l : ℕ) → 0 < l → t ≤ pred l → t < l
 pred_below t l f h = omega arith
@@ -36,14 +28,14 @@ last_beyond p c h = rw (get_or_past p.carriers c nobody h)
 -- a reachable picture has a number
 module _ (p : Plan) (filled : HavePaths p) (x : Picture) (r : Reachable p x) where
   reached_inside : Inside p x
-  reached_inside c cp = last_inside p c (x c) (filled c cp) (not_further p r.0 x r.1 c)
+  reached_inside c cp = last_inside p c (x c) (filled c cp) (within p x r c)
 
   reached_picture : picture p (number p x) ≡ x
   reached_picture = fun_ext λ c. go c (cases_lt c (carriers p))
     where
       go : (c : ℕ) → (c < carriers p) ⊎ (carriers p ≤ c) → picture p (number p x) c ≡ x c
       go c (inl cp) = picture_of_lem p.carriers x reached_inside c cp
-      go c (inr h) = let a = beyond p.carriers (number p x) c h in let b = not_further p r.0 x r.1 c in let e = last_beyond p c h in omega arith
+      go c (inr h) = let a = beyond p.carriers (number p x) c h in let b = within p x r c in let e = last_beyond p c h in omega arith
 
 still_parts : (p : Plan) (x : Picture) → Reachable p x → still p x ≡ true → Standstill p x
 unfolding still unfinished

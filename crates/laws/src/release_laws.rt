@@ -18,6 +18,7 @@ pub fn standstills_are_stuck_strings()
 {}
 
 /// In a plan in which the check finds nothing, the judge finds no standstill.
+#[tactic(auto, using(crate::proofs::Agreed::judge_agrees_with_check))]
 pub fn judge_agrees_with_check()
     ensures { JudgeAgreesWithCheck }
 {}

@@ -23,6 +23,7 @@ fn is_on_floor(places: u16, carrier: &Carrier) -> bool
 }
 
 /// The same of each carrier.
+// Kept: places and carriers meet here, in `carriers_fit` and in `Fitting::new`, which makes the struct that holds such carriers.
 #[tactic(auto, unfolding(crate::specs::Plan::all_on_floor, crate::specs::Held::routes_of))]
 fn all_on_floor(places: u16, carriers: &[Carrier]) -> bool
     ensures { result ≡ all_on_floor places (routes_of carriers.now) }
