@@ -19,7 +19,7 @@ fn read_entries(
     last: u16,
     count: u16,
 ) -> Result<Vec<u16>, ReadFault>
-    ensures value { Agrees vec_items result (entries_at cursor.old.bytes cursor.old.mark cursor.old.at last count) }
+    ensures value { Agrees vec_items result (entries_at cursor.old.bytes cursor.old.record_at cursor.old.at last count) }
     ensures moves { IfOk result (λ v. cursor.new ≡ further cursor.old (2 * vec_len v)) }
     ensures many { IfOk result (λ v. vec_len v ≡ count) }
 {
@@ -39,8 +39,8 @@ fn read_carrier(
     size: u16,
     room: u16,
 ) -> Result<Carrier, ReadFault>
-    requires { cursor.old.at ≡ cursor.old.mark + 2 }
-    ensures value { Agrees route_of result (carrier_at cursor.old.bytes cursor.old.mark size room) }
+    requires { cursor.old.at ≡ cursor.old.record_at + 2 }
+    ensures value { Agrees route_of result (carrier_at cursor.old.bytes cursor.old.record_at size room) }
     ensures moves { IfOk result (λ c. cursor.new ≡ further cursor.old (6 + 2 * vec_len c.path)) }
     ensures few { IfOk result (λ c. vec_len c.path ≤ room) }
 {
@@ -61,7 +61,9 @@ fn carrier_follows(cursor: &mut Cursor<'_>) -> Result<bool, FileFault>
     match cursor.mark()? {
         Mark::Carrier => Ok(true),
         Mark::End => Ok(false),
-        Mark::Rail | Mark::Hall => Err(FileFault::WrongMark { at: cursor.start() }),
+        Mark::Rail | Mark::Hall => Err(FileFault::WrongMark {
+            at: cursor.record_at(),
+        }),
     }
 }
 
@@ -77,7 +79,10 @@ pub(crate) fn read_carriers(
     let mut room = 2048;
     while carrier_follows(cursor)? {
         if carriers.len() == 32 {
-            return Err(FileFault::OutOfRange { at: cursor.start() }.into());
+            return Err(FileFault::OutOfRange {
+                at: cursor.record_at(),
+            }
+            .into());
         }
         let carrier = read_carrier(heap, cursor, size, room)?;
         room -= carrier.path.len() as u16;

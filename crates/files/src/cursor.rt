@@ -14,7 +14,7 @@ use std::marker::Model;
 #[derive(Drop)]
 pub(crate) struct Cursor<'b> {
     bytes: &'b [u8],
-    mark: usize,
+    record_at: usize,
     at: usize,
 }
 
@@ -24,7 +24,7 @@ impl<'b> Model for Cursor<'b> {
 
     ghost Value = { Position };
 
-    ghost view = { λ c. record { bytes = c.bytes.now; mark = c.mark; at = c.at } };
+    ghost view = { λ c. record { bytes = c.bytes.now; record_at = c.record_at; at = c.at } };
 
     ghost invariant = { λ c. c.at ≤ length c.bytes.now };
 }
@@ -32,20 +32,20 @@ impl<'b> Model for Cursor<'b> {
 impl<'b> Cursor<'b> {
     /// At the front of a file.
     pub(crate) fn new(bytes: &'b [u8]) -> Self
-        ensures { result ≡ record { bytes = bytes.now; mark = 0; at = 0 } }
+        ensures { result ≡ record { bytes = bytes.now; record_at = 0; at = 0 } }
     {
         Cursor {
             bytes,
-            mark: 0,
+            record_at: 0,
             at: 0,
         }
     }
 
     /// Where the mark stands of the record that is being read.
-    pub(crate) fn start(&self) -> usize
-        ensures { result ≡ self.now.mark }
+    pub(crate) fn record_at(&self) -> usize
+        ensures { result ≡ self.now.record_at }
     {
-        self.mark
+        self.record_at
     }
 
     /// Where the next number stands.
@@ -65,7 +65,7 @@ impl<'b> Cursor<'b> {
     /// The next number.
     #[tactic(auto, unfolding(crate::specs::Parse::number_at))]
     pub(crate) fn number(&mut self) -> Result<u16, FileFault>
-        ensures value { result ≡ number_at self.old.bytes self.old.mark self.old.at }
+        ensures value { result ≡ number_at self.old.bytes self.old.record_at self.old.at }
         ensures moves { OnOk result (self.new ≡ further self.old 2) }
     {
         let bytes = self.take(2)?;
@@ -75,7 +75,7 @@ impl<'b> Cursor<'b> {
     /// The next number, which is to be from `least` to `most`.
     #[tactic(auto, unfolding(crate::specs::Parse::ranged_at))]
     pub(crate) fn ranged(&mut self, least: u16, most: u16) -> Result<u16, FileFault>
-        ensures value { result ≡ ranged_at self.old.bytes self.old.mark self.old.at least most }
+        ensures value { result ≡ ranged_at self.old.bytes self.old.record_at self.old.at least most }
         ensures moves { OnOk result (self.new ≡ further self.old 2) }
         ensures within { IfOk result (λ v. (least ≤ v) × (v ≤ most)) }
     {
@@ -87,33 +87,27 @@ impl<'b> Cursor<'b> {
         Ok(value)
     }
 
-    /// The next mark, with which a record begins. Its number has the low byte first.
+    /// The next mark, with which a record begins.
     #[tactic(auto, unfolding(crate::specs::Marks::mark_at))]
     pub(crate) fn mark(&mut self) -> Result<Mark, FileFault>
         ensures value { result ≡ mark_at self.old.bytes self.old.at }
         ensures moves { OnOk result (self.new ≡ behind_mark self.old) }
     {
         let at = self.at;
-        self.mark = at;
-        match self.number()? {
-            0x4652 => Ok(Mark::Rail),
-            0x4648 => Ok(Mark::Hall),
-            0x4143 => Ok(Mark::Carrier),
-            0x4e45 => Ok(Mark::End),
-            _ => Err(FileFault::WrongMark { at }),
-        }
+        self.record_at = at;
+        Mark::try_from(self.number()?).map_err(|_| FileFault::WrongMark { at })
     }
 
     /// The next `count` bytes.
     pub(crate) fn take(&mut self, count: usize) -> Result<&'b [u8], FileFault>
         ensures bytes { IfOk result (λ b. b.now ≡ take count (drop self.old.at self.old.bytes)) }
         ensures there { IsOk result ↔ (self.old.at + count ≤ length self.old.bytes) }
-        ensures ends { IfErr result (λ e. e ≡ FileFault.Ends self.old.mark) }
+        ensures ends { IfErr result (λ e. e ≡ FileFault.Ends self.old.record_at) }
         ensures moves { OnOk result (self.new ≡ further self.old count) }
     {
-        let Some(bytes) = self.bytes[self.at..].get(..count) else {
-            return Err(FileFault::Ends { at: self.mark });
-        };
+        let bytes = self.bytes[self.at..]
+            .get(..count)
+            .ok_or(FileFault::Ends { at: self.record_at })?;
         self.at += count;
         Ok(bytes)
     }

@@ -27,7 +27,10 @@ fn read_floor(heap: Global, bytes: &[u8]) -> Result<(StoreFloor, Cursor<'_>), Re
         Mark::Rail => StoreFloor::Rail(read_rail(heap, &mut cursor)?),
         Mark::Hall => StoreFloor::Hall(read_hall(heap, &mut cursor)?),
         Mark::Carrier | Mark::End => {
-            return Err(FileFault::WrongMark { at: cursor.start() }.into());
+            return Err(FileFault::WrongMark {
+                at: cursor.record_at(),
+            }
+            .into());
         }
     };
     Ok((floor, cursor))

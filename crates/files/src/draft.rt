@@ -17,6 +17,7 @@ pub struct Draft {
 }
 
 /// A file that was not read; both tables are handed back as they were.
+// Kept: one generic type with `TablesRefused`, which would stand in `plans`, could have no `From` here: neither type would be this crate's.
 #[derive(Drop)]
 pub struct ReadRefused {
     pub entries: Vec<u16>,

@@ -37,16 +37,14 @@ pub(crate) fn read_hall(heap: Global, cursor: &mut Cursor<'_>) -> Result<HallFlo
     ensures moves { IfOk result (λ f. cursor.new ≡ further cursor.old (8 + vec_len f.blocked)) }
 {
     let width = cursor.ranged(1, 1024)?;
+    let at = cursor.at();
     let height = cursor.ranged(1, 1024)?;
     let cells = usize::from(width) * usize::from(height);
     if cells > 1024 {
-        return Err(FileFault::OutOfRange { at: 4 }.into());
+        return Err(FileFault::OutOfRange { at }.into());
     }
     let across = cursor.ranged(1, u16::MAX)?;
     let down = cursor.ranged(1, u16::MAX)?;
     let blocked = read_cells(heap, cursor, cells)?;
-    let Ok(floor) = HallFloor::new(width, height, across, down, blocked) else {
-        unreachable()
-    };
-    Ok(floor)
+    Ok(HallFloor::new(width, height, across, down, blocked).unwrap())
 }

@@ -18,7 +18,7 @@ use std::alloc::Global;
 /// The next leg, on a floor of `size` places and behind the leg `before`.
 #[tactic(auto, unfolding(crate::specs::Parse::leg_at))]
 fn read_leg(cursor: &mut Cursor<'_>, size: u16, before: Option<Leg>) -> Result<Leg, FileFault>
-    ensures value { result ≡ leg_at cursor.old.bytes cursor.old.mark cursor.old.at size before }
+    ensures value { result ≡ leg_at cursor.old.bytes cursor.old.record_at cursor.old.at size before }
     ensures moves { OnOk result (cursor.new ≡ further cursor.old 6) }
 {
     let at = cursor.at();
@@ -39,7 +39,7 @@ fn read_legs(
     size: u16,
     count: u16,
 ) -> Result<Vec<Leg>, ReadFault>
-    ensures value { Agrees vec_items result (legs_at cursor.old.bytes cursor.old.mark cursor.old.at size None count) }
+    ensures value { Agrees vec_items result (legs_at cursor.old.bytes cursor.old.record_at cursor.old.at size None count) }
     ensures moves { IfOk result (λ v. cursor.new ≡ further cursor.old (6 * vec_len v)) }
 {
     let mut legs = Vec::new(heap);
@@ -54,6 +54,7 @@ fn read_legs(
 }
 
 /// The rail floor with whose mark the file begins.
+// Kept: `read_hall` and `read_cells` too ask where the cursor stands; a type for one that stands there is no plainer, since a floor's record is defined by offsets from the front of the file.
 #[tactic(auto, unfolding(crate::specs::Parse::rail_at))]
 pub(crate) fn read_rail(heap: Global, cursor: &mut Cursor<'_>) -> Result<RailFloor, ReadFault>
     requires { cursor.old ≡ first_record cursor.old.bytes }
@@ -63,9 +64,8 @@ pub(crate) fn read_rail(heap: Global, cursor: &mut Cursor<'_>) -> Result<RailFlo
     let size = cursor.ranged(1, 1024)?;
     let count = cursor.ranged(0, 4096)?;
     let legs = read_legs(heap, cursor, size, count)?;
-    match RailFloor::new(heap, size, legs) {
-        Ok(floor) => Ok(floor),
-        Err(FloorFault::Memory) => Err(ReadFault::Memory),
-        Err(FloorFault::Unfit) => unreachable(),
-    }
+    RailFloor::new(heap, size, legs).map_err(|fault| match fault {
+        FloorFault::Memory => ReadFault::Memory,
+        FloorFault::Unfit => unreachable(),
+    })
 }

@@ -22,8 +22,5 @@ pub fn read(
         Ok(draft) => draft,
         Err(fault) => return Err(ReadRefused::new(tables, fault)),
     };
-    let Ok(plan) = ReadPlan::new(floor, &carriers, tables) else {
-        unreachable()
-    };
-    Ok(plan)
+    Ok(ReadPlan::new(floor, &carriers, tables).unwrap())
 }

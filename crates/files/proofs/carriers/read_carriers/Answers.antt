@@ -21,7 +21,7 @@ returns-in_err-carrier_follows c =
 pub returns-then-len-eq32 : goal.returns-then-len-eq32
 returns-then-len-eq32 c =
     let d : Ok true ≡ follows_at c.loop-carriers.cursor.bytes c.loop-carriers.cursor.at = search rules in
-    rw (c.into.ensures, c.start.ensures, c.in_ok-carrier_follows.ensures.moves) (c.loop-carriers.invariant.read ∙ carriers_full _ _ _ _ _ _ d (omega arith))
+    rw (c.into.ensures, c.record_at.ensures, c.in_ok-carrier_follows.ensures.moves) (c.loop-carriers.invariant.read ∙ carriers_full _ _ _ _ _ _ d (omega arith))
 
 pub returns-in_err-carrier : goal.returns-in_err-carrier
 returns-in_err-carrier c =

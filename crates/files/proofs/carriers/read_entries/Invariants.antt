@@ -8,5 +8,5 @@ abbrev pub invariant-loop : goal.invariant-loop
 invariant-loop l = record {
   moved : l.cursor ≡ further l.fn.cursor (2 * l.counter);
   many : vec_len l.entries ≡ l.counter;
-  read : entries_at l.fn.cursor.bytes l.fn.cursor.mark l.fn.cursor.at l.last l.count ≡ after (vec_items l.entries) (entries_at l.cursor.bytes l.cursor.mark l.cursor.at l.last (l.count - l.counter));
+  read : entries_at l.fn.cursor.bytes l.fn.cursor.record_at l.fn.cursor.at l.last l.count ≡ after (vec_items l.entries) (entries_at l.cursor.bytes l.cursor.record_at l.cursor.at l.last (l.count - l.counter));
 }

@@ -8,5 +8,5 @@ abbrev pub invariant-loop : goal.invariant-loop
 invariant-loop l = record {
   moved : l.cursor ≡ further l.fn.cursor (6 * l.counter);
   many : vec_len l.legs ≡ l.counter;
-  read : legs_at l.fn.cursor.bytes l.fn.cursor.mark l.fn.cursor.at l.size None l.count ≡ after (vec_items l.legs) (legs_at l.cursor.bytes l.cursor.mark l.cursor.at l.size l.before (l.count - l.counter));
+  read : legs_at l.fn.cursor.bytes l.fn.cursor.record_at l.fn.cursor.at l.size None l.count ≡ after (vec_items l.legs) (legs_at l.cursor.bytes l.cursor.record_at l.cursor.at l.size l.before (l.count - l.counter));
 }
