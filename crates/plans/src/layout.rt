@@ -48,8 +48,8 @@ impl Tables {
         ensures entries { self.new.entries.items ≡ entry_table (routes_of fitting.now.carriers.now) ++ drop 2048 self.old.entries.items }
         ensures rows { self.new.rows ≡ self.old.rows }
     {
-        // Kept: places are counted; after a walk with `split_at_mut` the proof knows the length of the table and no entry. So does
-        // `write_rows`, since each writes one table and says what it then holds.
+        // Kept: places are counted; after a walk with `split_at_mut` the proof knows the length of the table and no entry. `write_rows`
+        // counts them too, since each of the two writes one table and says what it then holds.
         let mut at = 0;
         for carrier in fitting.carriers {
             let count = carrier.path.len();

@@ -64,6 +64,7 @@ impl<'p> Route<'p> {
     {
         self.at(usize::from(t) + 1)
     }
+
     /// The first of the two ends of the path that is not where the route is to begin or to end.
     #[tactic(auto, unfolding(crate::specs::Routes::wrong_end_of))]
     pub(crate) fn wrong_end(&self) -> Option<(u8, u16)>
