@@ -17,7 +17,7 @@ fn digit(b: u8) -> Option<u8> {
 }
 
 /// The bytes that a hexadecimal text says.
-// Kept: chunks of two, or the kit's `hex`, are no plainer, since a last digit that stands alone is read and left out here.
+// Kept: with chunks of two a last digit that stands alone, which is read and left out here, would need a case of its own.
 fn bytes_of(heap: Global, hex: &str) -> anyhow::Result<Vec<u8>> {
     let mut bytes = Vec::new(heap);
     let mut high = None;

@@ -69,6 +69,7 @@ impl<'b> Cursor<'b> {
         ensures moves { OnOk result (self.new ≡ further self.old 2) }
     {
         let bytes = self.take(2)?;
+        // Kept: two bytes by index, since `first_chunk` would have to be unwrapped.
         Ok(u16::from_le_bytes([bytes[0], bytes[1]]))
     }
 

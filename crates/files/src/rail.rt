@@ -44,7 +44,7 @@ fn read_legs(
 {
     let mut legs = Vec::new(heap);
     let mut before = None;
-    // Kept: a twin of the loop in `read_entries`, which as a chain into `try_collect` did not prove; this one also carries the leg before.
+    // Kept: a twin of the loop in `read_entries`, where a chain into `try_collect` did not prove; one function for both would hand each item the one before, which only legs need.
     for _ in 0..count {
         let leg = read_leg(cursor, size, before)?;
         legs.push(leg)?;
@@ -54,7 +54,7 @@ fn read_legs(
 }
 
 /// The rail floor with whose mark the file begins.
-// Kept: `read_hall` and `read_cells` too ask where the cursor stands; a type for one that stands there is no plainer, since a floor's record is defined by offsets from the front of the file.
+// Kept: `read_hall`, `read_cells` and, behind its own mark, `read_carrier` ask where the cursor stands too; a type for one that stands there is no plainer, since records are defined by offsets from their marks.
 #[tactic(auto, unfolding(crate::specs::Parse::rail_at))]
 pub(crate) fn read_rail(heap: Global, cursor: &mut Cursor<'_>) -> Result<RailFloor, ReadFault>
     requires { cursor.old ≡ first_record cursor.old.bytes }

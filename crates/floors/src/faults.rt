@@ -30,7 +30,7 @@ impl fmt::Display for FloorFault {
 
 impl Error for FloorFault {}
 
-// Kept: written out for either error of memory, since a derived `From` says nothing of what `?` makes of it.
+// Kept: written out for either error of memory that a `?` may meet, since a derived `From` says nothing of what it makes.
 impl From<AllocError> for FloorFault {
     ghost from_gives = { λ _ r. r ≡ Memory };
 

@@ -12,7 +12,7 @@ pub fn bytes_for(cells: usize) -> usize
     cells.div_ceil(8)
 }
 
-/// Whether the bits of the last byte that are no cell's are 0.
+/// Whether the bits of the last byte that are no cell's are 0. A byte that is not there counts as 0.
 pub fn spare_free(cells: usize, bytes: &[u8]) -> bool
     ensures { result ≡ spare_free cells bytes.now }
 {

@@ -69,6 +69,7 @@ impl Board for PlaceBoard {
         Ok(())
     }
 
+    // Kept: `who` and `count` look into two tables with two refusals; one function for both would be longer than each.
     fn who(&self, place: u16) -> Result<Option<u8>, BoardFault> {
         self.cells
             .get(usize::from(place))

@@ -22,15 +22,6 @@ fn is_on_floor(places: u16, carrier: &Carrier) -> bool
     carrier.start < places && carrier.goal < places && all_within(places, &carrier.path)
 }
 
-/// The same of each carrier.
-// Kept: places and carriers meet here, in `carriers_fit` and in `Fitting::new`, which makes the struct that holds such carriers.
-#[tactic(auto, unfolding(crate::specs::Plan::all_on_floor, crate::specs::Held::routes_of))]
-fn all_on_floor(places: u16, carriers: &[Carrier]) -> bool
-    ensures { result ≡ all_on_floor places (routes_of carriers.now) }
-{
-    carriers.iter().all(|carrier| is_on_floor(places, carrier))
-}
-
 /// Whether the paths of all carriers together have at most 2,048 entries.
 fn paths_fit(carriers: &[Carrier]) -> bool
     ensures { result ≡ nat_le (length (entries_of (routes_of carriers.now))) 2048 }
@@ -49,5 +40,7 @@ fn paths_fit(carriers: &[Carrier]) -> bool
 pub fn carriers_fit(places: u16, carriers: &[Carrier]) -> bool
     ensures { result ≡ fits_carriers places (routes_of carriers.now) }
 {
-    carriers.len() <= Tables::ROWS && paths_fit(carriers) && all_on_floor(places, carriers)
+    carriers.len() <= Tables::ROWS
+        && paths_fit(carriers)
+        && carriers.iter().all(|carrier| is_on_floor(places, carrier))
 }

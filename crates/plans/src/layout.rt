@@ -25,7 +25,7 @@ impl<'c> Fitting<'c> {
         ensures fit { is_some result ≡ fits_carriers places (routes_of carriers.now) }
         ensures same { IfSome result (λ f. f.carriers.now ≡ carriers.now) }
     {
-        // Kept: a closure for `then` would have to require what the invariant says, and in this form the check finds it.
+        // Kept: `then` was tried, and that its closure makes a `Fitting` was not proved.
         if carriers_fit(places, carriers) {
             Some(Fitting { carriers })
         } else {
@@ -48,8 +48,7 @@ impl Tables {
         ensures entries { self.new.entries.items ≡ entry_table (routes_of fitting.now.carriers.now) ++ drop 2048 self.old.entries.items }
         ensures rows { self.new.rows ≡ self.old.rows }
     {
-        // Kept: places are counted; after a walk with `split_at_mut` the proof knows the length of the table and no entry. `write_rows`
-        // counts them too, since each of the two writes one table and says what it then holds.
+        // Kept: places are counted, here and in `write_rows`, as each of the two writes one table and says what it then holds; after a walk with `split_at_mut` the proof knows the table's length and no entry.
         let mut at = 0;
         for carrier in fitting.carriers {
             let count = carrier.path.len();

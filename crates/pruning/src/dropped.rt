@@ -1,5 +1,5 @@
 /// What was found out about each leg of a plan: one with a height is dropped from the search, one without is kept.
-// Kept: a list for each carrier would be memory that can run out; in one array, `offsets` says where each carrier's part begins.
+// Kept: a list for each carrier would be memory that can run out; `offsets` stands beside the one array, since the rows of a plan are not lent.
 #[derive(Clone, Copy)]
 pub struct Dropped {
     /// For each carrier, where the heights of its legs begin.

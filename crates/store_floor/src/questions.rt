@@ -7,7 +7,7 @@ ghost use Rattle.store_floor.specs.Either.{layout_fits, places_some, places_most
 use crate::store::StoreFloor;
 use floors::floor::{Floor, Measured};
 
-// Kept: a `match` names both kinds; a `dyn` for either may not be handed out, and a method that takes a closure for each kind is no shorter.
+// Kept: a `match` names both kinds; no `dyn` can stand for either, since `Floor` asks for `Sized`, and a method that takes a closure for each kind is no shorter.
 impl Floor for StoreFloor {
     ghost size = { λ f. places (layout_of f) };
 
