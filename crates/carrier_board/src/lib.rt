@@ -97,7 +97,7 @@ impl Board for CarrierBoard {
     }
 
     fn count(&self, carrier: u8) -> Result<u8, BoardFault> {
-        let own = self.cells_of(carrier)?;
-        Ok(own.iter().filter(|cell| cell.is_some()).count() as u8)
+        let [first, second] = self.cells_of(carrier)?;
+        Ok(u8::from(first.is_some()) + u8::from(second.is_some()))
     }
 }

@@ -1,15 +1,20 @@
 -- Floors and whole files: what is read is what was written, and back.
-use Rattle.std.proofs.Common.{◌≡◌, ℕ, ◌+◌, ◌*◌, ◌≤◌, true, cond, eqb, leb, ◌⊎◌, List, [], ◌∷◌, ◌++◌, length, drop, None, Ok, Err, refl, ap, ◌∙◌, subst, inl, inr, mul-pos, arith}
+use Rattle.std.proofs.Common.{◌≡◌, ℕ, ◌+◌, ◌*◌, ◌≤◌, true, cond, eqb, leb, ◌⊎◌, List, [], ◌∷◌, ◌++◌, length, drop, None, Ok, Err, vec_items, refl, ap, ◌∙◌, subst, inl, inr, mul-pos, arith}
 use Rattle.std.proofs.lemmas.Bool.{and_parts, and_from, cases_eq, eq-eqb, ne_eqb, leb-true, le-leb, eqb-true}
 use Rattle.rail_floor.specs.declared.legs.Leg.{Leg}
 use Rattle.rail_floor.specs.Rails.{fits_rail}
 use Rattle.rail_floor.specs.Ordered.{rail_fit}
 use Rattle.hall_floor.specs.Halls.{Hall, cells, bytes_for, spare_free, fits_hall}
 use Rattle.store_floor.specs.Layout.{Layout, rails, cellular, places, fits_layout}
+use Rattle.store_floor.specs.Held.{layout_of}
+use Rattle.plans.specs.declared.carriers.Carrier.{Carrier}
 use Rattle.plans.specs.Plan.{Route, Plan, entries_of, all_on_floor, fits_carriers, fits}
+use Rattle.plans.specs.Held.{routes_of}
+use Rattle.files.specs.declared.draft.Draft.{Draft}
 use Rattle.files.specs.declared.faults.FileFault.TheVariants.{OutOfRange, WrongMark}
 use Rattle.files.specs.Parse.{guard, number_at, ranged_at, legs_at, rail_at, cells_at, hall_at, floor_at, record_size, carriers_at, parse}
 use Rattle.files.specs.Written.{two, legs_bytes, floor_bytes, routes_bytes, written}
+use Rattle.files.specs.Reading.{draft_of}
 use Rattle.files.specs.Laws.{Bytes, FilesArePlans}
 use Rattle.files.proofs.Numbered.{both_ok, guard_ok, ranged_ok, ranged_of, number_bytes, number_of_lem}
 use Rattle.files.proofs.Legged.{legs_of_lem, legs_ok}
@@ -219,3 +224,8 @@ file_of bytes p f e =
 
 pub files_are_plans : FilesArePlans
 files_are_plans bytes p b = ((λ h. let i = file_ok bytes p h in (i.fit, i.bytes_are b)), (λ h. file_of bytes p h.0 h.1))
+
+-- the carriers of a draft that was read fit its floor
+pub draft_fits : (bytes : List ℕ) (d : Draft) (cs : List Carrier) → parse bytes ≡ Ok (draft_of d) → cs ≡ vec_items d.carriers → fits_carriers (places (layout_of d.floor)) (routes_of cs) ≡ true
+draft_fits bytes d cs h e =
+    ap (λ (cs : List Carrier). fits_carriers (places (layout_of d.floor)) (routes_of cs)) e ∙ (and_parts (fits_layout (layout_of d.floor)) _ (file_ok bytes (draft_of d) h).fit).1

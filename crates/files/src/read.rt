@@ -8,6 +8,7 @@ use plans::tables::Tables;
 use std::alloc::Global;
 
 /// Reads a file into a plan, which takes both tables: at least 2,048 entries and 32 rows.
+#[tactic(auto, using(crate::proofs::Whole::draft_fits))]
 pub fn read(
     heap: Global,
     bytes: &[u8],

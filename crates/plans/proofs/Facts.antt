@@ -1,5 +1,5 @@
 -- What a read plan's invariant says.
-use Rattle.std.proofs.Common.{◌≡◌, ℕ, ◌+◌, ◌-◌, ◌≤◌, true, List, length, get_or, take, Option, Bor, vec_items, sym, ap, ◌∙◌, arith}
+use Rattle.std.proofs.Common.{◌≡◌, ℕ, ◌+◌, ◌-◌, ◌≤◌, true, List, length, get_or, take, drop, Some, Option, Bor, vec_items, sym, ap, ◌∙◌, arith}
 use Rattle.std.proofs.lemmas.List.{length-map, length-take-le, take_at, take-take}
 use Rattle.std.proofs.lemmas.Option.{slice_get-map, slice_get-get_or, unwrap_or-slice_get}
 use Rattle.std.specs.Option.{MatchOption, option_map, option_copied, unwrap_or}
@@ -41,6 +41,14 @@ module _ (p : ReadPlan) where
   carrier_is c row e =
       sym (unwrap_or-slice_get (plan_of p).carriers c nobody)
       ∙ ap (λ (r : Option Route). unwrap_or r nobody) (slice_get-map (route_at (vec_items p.tables.entries)) (take p.carriers (vec_items p.tables.rows)) c ∙ ap (option_map (route_at (vec_items p.tables.entries))) (sym e))
+
+  -- the path that a row says, where it stands among the entries
+  pub path_is : (c : ℕ) (row : CarrierRow) (entries : List ℕ) (before count : ℕ) → Some row ≡ slice_get (take p.carriers (vec_items p.tables.rows)) c → row.before + row.count ≤ 2048
+      → entries ≡ vec_items p.tables.entries → before ≡ row.before → count ≡ row.count → take count (take (length entries - before) (drop before entries)) ≡ (carrier (plan_of p) c).path
+  path_is c row entries before count s w e b n =
+      take-take count _ _ (omega (arith, w, b, n, ap length e, p.tables.long, p.tables.entries.ok.0))
+      ∙ (λ i. take (n i) (drop (b i) (e i)))
+      ∙ sym (ap (λ (r : Route). r.path) (carrier_is c (Some row) s))
 
   pub rows_within : (rows : List CarrierRow) → rows ≡ take p.carriers (vec_items p.tables.rows) → All (λ (row : CarrierRow). row.before + row.count ≤ 2048) rows
   rows_within rows e k d h =

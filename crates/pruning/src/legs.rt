@@ -6,11 +6,11 @@ ghost use Rattle.laws.specs.Chains.{end};
 
 use laws::pairs::Pair;
 use plans::plans::ReadPlan;
-use rules::paths::Route;
+use rules::paths::entry;
 
 /// Where a leg ends.
 pub fn end_of(plan: &ReadPlan, leg: Pair) -> u16
     ensures { result ≡ end (plan_of plan.now) leg }
 {
-    Route::of(plan, leg.carrier).end(leg.leg)
+    entry(plan, leg.carrier, leg.leg.saturating_add(1))
 }

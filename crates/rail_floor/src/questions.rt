@@ -1,6 +1,6 @@
 //! What a rail floor tells of itself.
 
-ghost use Rattle.std.specs.Prelude.{◌≡◌, ◌≤◌, None};
+ghost use Rattle.std.specs.Prelude.{◌≡◌, ◌+◌, ◌-◌, ◌≤◌, None, length, take, drop};
 ghost use Rattle.rail_floor.specs.Rails.{below, legs_at, exits_of, length_of};
 ghost use Rattle.rail_floor.specs.Held.{places_of, legs_of};
 ghost use Rattle.rail_floor.specs.Ordered.{rail_fit, exits_sorted, exits_inside, exits_away, exits_beyond, length-led, length_long, length_short};
@@ -8,6 +8,7 @@ ghost use Rattle.rail_floor.specs.Ordered.{rail_fit, exits_sorted, exits_inside,
 use crate::legs::Leg;
 use crate::rail::RailFloor;
 use floors::floor::{Floor, Measured};
+use std::ops::Range;
 
 impl RailFloor {
     /// Where the legs from a place begin; at the number of places, where the last end.
@@ -18,15 +19,25 @@ impl RailFloor {
         usize::from(self.first[usize::from(place)])
     }
 
-    /// The legs that begin at a place; none beyond the floor.
+    /// Where the legs from a place stand in the list; nowhere beyond the floor.
     #[tactic(auto, using(crate::proofs::Indexed::below_next, crate::proofs::Indexed::below_le))]
+    fn part_of(&self, place: u16) -> Range<usize>
+        ensures rises { result.start ≤ result.end }
+        ensures inside { result.end ≤ length (legs_of self.now) }
+        ensures legs { take (result.end - result.start) (drop result.start (legs_of self.now)) ≡ legs_at (legs_of self.now) place }
+        ensures count { result.start + length (legs_at (legs_of self.now) place) ≡ result.end }
+    {
+        if place >= self.places {
+            return 0..0;
+        }
+        self.first_of(place)..self.first_of(place + 1)
+    }
+
+    /// The legs that begin at a place; none beyond the floor.
     fn legs_from(&self, place: u16) -> &[Leg]
         ensures { result.now ≡ legs_at (legs_of self.now) place }
     {
-        if place >= self.places {
-            return &[];
-        }
-        &self.legs[self.first_of(place)..self.first_of(place + 1)]
+        &self.legs[self.part_of(place)]
     }
 }
 
@@ -52,11 +63,13 @@ impl Floor for RailFloor {
     }
 
     fn exit_count(&self, place: u16) -> u16 {
-        self.legs_from(place).len() as u16
+        let Range { start, end } = self.part_of(place);
+        (end - start) as u16
     }
 
     fn exit(&self, place: u16, i: u16) -> Option<u16> {
-        self.legs_from(place).get(usize::from(i)).map(|leg| leg.to)
+        let legs = self.legs_from(place);
+        legs.get(usize::from(i)).map(|leg| leg.to)
     }
 }
 

@@ -8,6 +8,12 @@ use Rattle.plans.specs.Held.{plan_of}
 use Rattle.laws.specs.Paths.{carriers, goal}
 use Rattle.plans.proofs.Facts.{entries_few}
 
+-- what is read of a list, or 0 beyond it
+pub value_nth : (xs : List ℕ) (i : ℕ) → unwrap_or (slice_get xs i) 0 ≡ get_or xs i 0
+value_nth [] i = refl
+value_nth (x ∷ xs) zero = refl
+value_nth (x ∷ xs) (suc i) = value_nth xs i
+
 -- what is read of a list's element, or 0 beyond the list
 pub value_mapped : {X : Type 0} (g : X → ℕ) (none : X) → g none ≡ 0 → (xs : List X) (i : ℕ) → unwrap_or (option_map g (slice_get xs i)) 0 ≡ g (get_or xs i none)
 value_mapped g none e [] i = sym e

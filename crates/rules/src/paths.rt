@@ -1,13 +1,52 @@
 //! A carrier's start, goal and path, read entry by entry: what is beyond a path, or of an unknown carrier, reads as 0.
 
-ghost use Rattle.std.specs.Prelude.{◌≡◌, ◌+◌, ◌<◌, ◌≤◌, length, slice_index};
+ghost use Rattle.std.specs.Prelude.{◌≡◌, ◌+◌, ◌<◌, ◌≤◌, pred, length, slice_index};
 ghost use Rattle.store_floor.specs.Held.{layout_of};
 ghost use Rattle.plans.specs.Plan.{carrier};
 ghost use Rattle.plans.specs.Held.{plan_of};
+ghost use Rattle.laws.specs.Paths.{start as start_of, goal as goal_of, entry as entry_of, last as last_of};
 
 use floors::floor::Measured;
 use plans::plans::ReadPlan;
 use store_floor::store::StoreFloor;
+
+/// Where a carrier starts.
+pub fn start(plan: &ReadPlan, carrier: u8) -> u16
+    ensures { result ≡ start_of (plan_of plan.now) carrier }
+{
+    plan.start(carrier).unwrap_or(0)
+}
+
+/// Where a carrier is to go.
+pub fn goal(plan: &ReadPlan, carrier: u8) -> u16
+    ensures { result ≡ goal_of (plan_of plan.now) carrier }
+{
+    plan.goal(carrier).unwrap_or(0)
+}
+
+/// Entry `t` of a carrier's path.
+pub fn entry(plan: &ReadPlan, carrier: u8, t: u16) -> u16
+    ensures { result ≡ entry_of (plan_of plan.now) carrier t }
+{
+    plan.entry(carrier, t).unwrap_or(0)
+}
+
+/// The number of the last entry of a path.
+fn last_number(path: &[u16]) -> u16
+    requires { length path.now ≤ 2048 }
+    ensures value { result ≡ pred (length path.now) }
+    ensures few { result < 2048 }
+{
+    (path.len() as u16).saturating_sub(1)
+}
+
+/// The number of a carrier's last entry, which is the number of its legs.
+pub fn last(plan: &ReadPlan, carrier: u8) -> u16
+    ensures value { result ≡ last_of (plan_of plan.now) carrier }
+    ensures few { result < 2048 }
+{
+    last_number(plan.path(carrier))
+}
 
 /// A carrier's number, where it starts, where it is to go, and its path. An unknown carrier has 0, 0 and no path.
 // Kept: 0 stands for what is not there, as in the definitions of the rules, which say something of every number.
@@ -21,7 +60,7 @@ pub struct Route<'p> {
 }
 
 impl<'p> Route<'p> {
-    ghost use Rattle.rules.specs.Routes.{route_of, last_of, wrong_end_of, lacks_leg, legless_of, is_foreign};
+    ghost use Rattle.rules.specs.Routes.{route_of, last_of as last_of_route, wrong_end_of, lacks_leg, legless_of, is_foreign};
 
     /// The route of a carrier.
     pub fn of(plan: &'p ReadPlan, number: u8) -> Route<'p>
@@ -30,8 +69,8 @@ impl<'p> Route<'p> {
     {
         Route {
             carrier: number,
-            start: plan.start(number).unwrap_or(0),
-            goal: plan.goal(number).unwrap_or(0),
+            start: start(plan, number),
+            goal: goal(plan, number),
             path: plan.path(number),
         }
     }
@@ -52,10 +91,10 @@ impl<'p> Route<'p> {
 
     /// The number of the last entry, which is the number of legs.
     pub fn last(&self) -> u16
-        ensures value { result ≡ last_of (route_of self.now) }
+        ensures value { result ≡ last_of_route (route_of self.now) }
         ensures few { result < 2048 }
     {
-        (self.path.len() as u16).saturating_sub(1)
+        last_number(self.path)
     }
 
     /// Where leg `t` ends, which is the entry after entry `t`.

@@ -4,7 +4,7 @@ ghost use Rattle.laws.specs.Paths.{carriers};
 ghost use Rattle.laws.specs.Rules.{no_path, wrong_end, no_leg, equal_starts, equal_goals, foreign_goal};
 ghost use Rattle.rules.specs.Searches.{FindsEqualAbove, FindsEqual};
 
-use crate::paths::Route;
+use crate::paths::{Route, goal, start};
 use plans::plans::ReadPlan;
 
 /// The lowest carrier without a path.
@@ -51,14 +51,14 @@ fn equal_ends<F: Fn(u8) -> u16>(plan: &ReadPlan, end: F) -> Option<(u8, u8)>
 pub fn equal_starts(plan: &ReadPlan) -> Option<(u8, u8)>
     ensures { result ≡ equal_starts (plan_of plan.now) }
 {
-    equal_ends(plan, |carrier| Route::of(plan, carrier).start)
+    equal_ends(plan, |carrier| start(plan, carrier))
 }
 
 /// The lowest carrier that has the goal of a higher one, with the lowest such.
 pub fn equal_goals(plan: &ReadPlan) -> Option<(u8, u8)>
     ensures { result ≡ equal_goals (plan_of plan.now) }
 {
-    equal_ends(plan, |carrier| Route::of(plan, carrier).goal)
+    equal_ends(plan, |carrier| goal(plan, carrier))
 }
 
 /// The first carrier and entry, after entry 0, that is the goal of another carrier, with that carrier.

@@ -1,7 +1,8 @@
-use Rattle.std.proofs.Common.{◌≡◌, ◌+◌, ◌-◌, ◌*◌, ◌<◌, ◌≤◌, true, false, [], ◌∷◌, ◌++◌, length, Ok, vec_items, vec_len, refl, ◌∙◌, arith, rules}
+use Rattle.std.proofs.Common.{◌≡◌, ℕ, ◌+◌, ◌-◌, ◌*◌, ◌<◌, ◌≤◌, true, false, [], ◌∷◌, ◌++◌, length, Ok, Err, vec_items, vec_len, refl, ap, ◌∙◌, arith, rules}
 use Rattle.std.proofs.lemmas.Result.{err_from_is_err_and}
 use Rattle.std.proofs.lemmas.List.{map_push}
 use Rattle.plans.specs.Held.{route_of, routes_of}
+use Rattle.files.specs.declared.faults.FileFault.TheVariants.{Trailing}
 use Rattle.files.specs.Parse.{follows_at}
 use Rattle.files.specs.Reading.{carriers_in}
 use Rattle.files.proofs.Listed.{after_none, agrees_err, carriers_more, carriers_refused, carriers_full, carriers_stop, carriers_trailing, carriers_end}
@@ -51,7 +52,8 @@ pub returns-then-not-is_at_end : goal.returns-then-not-is_at_end
 returns-then-not-is_at_end c =
     let d : Ok false ≡ follows_at c.loop-carriers.cursor.bytes c.loop-carriers.cursor.at = search rules in
     let l : c.loop-carriers.cursor.at + 2 < length c.loop-carriers.cursor.bytes = search rules in
-    rw (c.into-then-not-is_at_end.ensures, c.at.ensures, c.in_ok-carrier_follows.ensures.moves) (c.loop-carriers.invariant.read ∙ carriers_trailing _ _ _ _ _ _ d l)
+    let e : c.at.result ≡ c.loop-carriers.cursor.at + 2 = rw (c.at.ensures, c.in_ok-carrier_follows.ensures.moves) refl in
+    rw c.into-then-not-is_at_end.ensures (c.loop-carriers.invariant.read ∙ (carriers_trailing _ _ _ _ _ _ d l ∙ ap (λ (k : ℕ). Err (Trailing k)) (omega (arith, e))))
 
 pub returns : goal.returns
 returns c =

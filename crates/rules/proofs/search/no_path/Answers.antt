@@ -1,4 +1,4 @@
-use Rattle.std.proofs.Common.{◌≡◌, ℕ, Bool, true, false, eqb, sym, ap, ◌∙◌, rules}
+use Rattle.std.proofs.Common.{◌≡◌, ℕ, Bool, true, false, eqb, ap, ◌∙◌, rules}
 use Rattle.std.proofs.lemmas.Iterator.{first_from_Range}
 use Rattle.plans.specs.Held.{plan_of}
 use Rattle.laws.specs.Paths.{entries}
@@ -13,4 +13,5 @@ returns c =
     let p = plan_of c.args.plan.now in
     let t : ℕ → Bool = λ k. eqb (entries p k) 0 in
     let found = first_from_Range _ _ _ _ (λ i. t i ≡ true) (λ i. t i ≡ false) c.find.ensures.ran (λ x q k. search rules) (λ x q k. (search rules, search rules)) in
-    sym (option_map_id c.find.result) ∙ first_from_find c.carrier_count.result t (λ k. k) c.find.result found ∙ ap (λ n. first n (λ k. when (t k) k)) c.carrier_count.ensures
+    let mapped = first_from_find c.carrier_count.result t (λ k. k) c.find.result found ∙ ap (λ n. first n (λ k. when (t k) k)) c.carrier_count.ensures in
+    search (rules, mapped, option_map_id c.find.result)

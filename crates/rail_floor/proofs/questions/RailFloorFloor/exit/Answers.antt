@@ -6,4 +6,4 @@ use Rattle.rail_floor.proofs.Indexed.{slice_get-exits_of}
 use Rattle.rail_floor.proofs.questions.RailFloorFloor.exit.Goals as goal
 
 pub returns : goal.returns
-returns c = rw (slice_get-exits_of (legs_of c.args.self.now) c.args.place c.args.i, ← c.legs_from.ensures) (grind (arith, common_steps, gets))
+returns c = rw (slice_get-exits_of (legs_of c.args.self.now) c.args.place c.args.i, ← c.legs_from-legs.ensures) (grind (arith, common_steps, gets))
