@@ -4,7 +4,7 @@ use Rattle.std.proofs.lemmas.Bool.Decides.{nat_tests}
 use Rattle.std.proofs.lemmas.Bool.{cases_lt, cases_eq, lt-ltb, le-ltb, eq-eqb, ne_eqb}
 use Rattle.std.proofs.lemmas.Option.{slice_get-map, slice_get-get_or}
 use Rattle.std.proofs.lemmas.List.{length-map, nil_from_length}
-use Rattle.std.specs.List.{slice_get, prefix_len}
+use Rattle.std.specs.List.{slice_get}
 use Rattle.std.specs.Option.{option_map}
 use Rattle.std.specs.List.Sorted.{IsNonDecreasingBy, IsPartitionPoint}
 use Rattle.rail_floor.specs.declared.legs.Leg.{Leg}
@@ -87,26 +87,23 @@ below_point (l ∷ ls) p (suc i) in_range point =
     let r = below_point ls p i (omega arith) ((λ k d low high. point.0 (suc k) d (omega arith) (omega arith)), (λ k d low high. point.1 (suc k) d (omega arith) (omega arith))) in
     rw head (omega arith)
 
--- behind so many legs that begin below p, how many more do
-pub below_behind : (n : ℕ) (b : Option Leg) (ls : List Leg) (p start : ℕ) → fits_legs n b ls ≡ true → start ≤ below ls p → start + prefix_len (λ (l : Leg). ltb l.from p) (drop start ls) ≡ below ls p
+-- where a leg stands that begins below p, and one that does not
+pub below_passed : (n : ℕ) (b : Option Leg) (ls : List Leg) (p k : ℕ) (x : Leg) → fits_legs n b ls ≡ true → slice_get ls k ≡ Some x → x.from < p → k < below ls p
 unfolding below
-below_behind n b [] p zero h k = refl
-below_behind n b [] p (suc start) h k = absurd (omega arith)
-below_behind n b (l ∷ ls) p zero h k =
+below_passed n b [] p k x h e o = let z : ◌≡◌ {A = ℕ} 0 1 = cc in omega arith
+below_passed n b (l ∷ ls) p zero x h e o = let q : l ≡ x = cc in let s : l.from ≡ x.from = ap (λ (y : Leg). y.from) q in grind (arith, nat_tests)
+below_passed n b (l ∷ ls) p (suc k) x h e o =
     let t = tail_fits n b l ls h in
-    elim (cases_lt l.from p) as (λ _. 0 + prefix_len (λ (l : Leg). ltb l.from p) (l ∷ ls) ≡ below (l ∷ ls) p) [
-      | inl lower ↦ let r = below_behind n (Some l) ls p 0 t (omega arith) in rw (lt-ltb _ _ lower) (omega arith)
-      | inr upper ↦ let z = below_none n l ls p t upper in rw (le-ltb _ _ upper) (omega arith)
-    ]
-below_behind n b (l ∷ ls) p (suc start) h k =
-    let t = tail_fits n b l ls h in
-    elim (cases_lt l.from p) as (λ _. suc start + prefix_len (λ (l : Leg). ltb l.from p) (drop start ls) ≡ below (l ∷ ls) p) [
-      | inl lower ↦
-          let m : suc start ≤ 1 + below ls p = rw (lt-ltb _ _ lower) at k in
-          let r = below_behind n (Some l) ls p start t (omega arith) in
-          rw (lt-ltb _ _ lower) (omega arith)
-      | inr upper ↦
-          let z = below_none n l ls p t upper in
-          let m : suc start ≤ 0 + below ls p = rw (le-ltb _ _ upper) at k in
-          absurd (omega arith)
-    ]
+    let r = below_passed n (Some l) ls p k x t e o in
+    let m = all_before n l ls k x t e in
+    grind (arith, nat_tests)
+
+pub below_stops : (n : ℕ) (b : Option Leg) (ls : List Leg) (p k : ℕ) (x : Leg) → fits_legs n b ls ≡ true → slice_get ls k ≡ Some x → p ≤ x.from → below ls p ≤ k
+unfolding below
+below_stops n b [] p k x h e o = omega arith
+below_stops n b (l ∷ ls) p zero x h e o =
+    let q : l ≡ x = cc in
+    let s : l.from ≡ x.from = ap (λ (y : Leg). y.from) q in
+    let z = below_none n l ls p (tail_fits n b l ls h) (omega arith) in
+    grind (arith, nat_tests)
+below_stops n b (l ∷ ls) p (suc k) x h e o = let r = below_stops n (Some l) ls p k x (tail_fits n b l ls h) e o in grind (arith, nat_tests)

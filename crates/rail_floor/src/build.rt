@@ -45,11 +45,11 @@ fn legs_below(legs: &[Leg], start: usize, place: u16) -> usize
     ensures count { result ≡ below legs.now place }
     ensures inside { result ≤ length legs.now }
 {
-    start
-        + legs[start..]
-            .iter()
-            .take_while(|leg| leg.from < place)
-            .count()
+    let mut next = start;
+    while next < legs.len() && legs[next].from < place {
+        next += 1;
+    }
+    next
 }
 
 /// Where the legs from each place begin, and, one entry more, where the last end.
@@ -59,8 +59,8 @@ fn index(heap: Global, places: u16, legs: &[Leg]) -> Result<Vec<u16>, AllocError
 {
     let mut first = Vec::with_capacity(heap, usize::from(places) + 1)?;
     let mut next = 0;
-    // Kept: a loop that carries where it stands, so that each leg is passed once; a chain that halves the list anew for each place took two to three times as long.
-    for place in 0..=places {
+    // Kept: a loop that carries where it stands, so that each leg is passed once; a chain that halves the list anew for each place took two to three times as long, and `take_while` from where the last place ended up to 1.8 times.
+    for place in 0..places + 1 {
         next = legs_below(legs, next, place);
         first.push(next as u16)?;
     }
